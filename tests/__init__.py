@@ -1,4 +1,5 @@
-"""What tests the programs, the commands, the documents and what is packed. `tests/run` runs one of these tests.
+"""What tests the programs, the commands, the documents and what is packed: `python3 -m pytest tests`, and `-k reach` after it for the tests whose names
+have a word. `--quick` runs them on programs that are built without a proof.
 
     model       the plain model: a slow program that answers as iptsim has to
     drawn       rules, packets, sessions and dumps that are drawn at random

@@ -1,30 +1,25 @@
-"""tests/run answers/apart DUMP_CASES [SEED [LINES]]: gives DUMP_CASES, which is the program `dump_cases`, dumps, and compares what it makes of
-them.
+"""Dumps that are taken apart by the program `dump_cases`: what it makes of them.
 
 - Each match and target of the table of options, with each of its options under each name, and each option of a rule: its own words and its
   conditions are those that the table says.
 - Lines that are drawn at random, from one match to many, with options of them in any order: in the same way. Then once more, with a second
-  dump that is the first after some edits: which of their conditions are one.
+  dump that is the first after some edits: which of their conditions are one. `--times N` draws N times as many, and `--seed SEED` others.
 - Rows of single lines, and of dumps, which are refused: the line, its fault and the word.
 - Rows of two dumps.
 - Each allocation of a run refused, one in each run: the run ends with status 4, or as without.
-
-The same SEED draws the same lines; without these words it is the run of the gate. It ends with status 1 where something isn't as expected, and
-says what differs.
 """
 
-import os
 import random
-import subprocess
-import sys
-import tempfile
+
+import pytest
 
 from commands import extensions
 from tests.drawn.dumps.lines import Writer
 from tests.drawn.dumps.rows import ADDED, DUMPS, LINES, PAIRS, REFUSED
-from tests.memory.refusing.program import refuser
+from tests.memory.refusing.program import preloaded
+from tests.shared.rows import same
 
-SEED, DRAWN = "1", 3000
+DRAWN = 3000
 # So many lines are in one dump, so many further allocations are refused after the last that counts, and so many are at most.
 TOGETHER, FURTHER, MOST = 500, 100, 20000
 
@@ -81,26 +76,17 @@ def due(*dumps):
     return [*texts[0], *(line for text in texts[1:] for line in (b"# next", *text)), *conditions.lines]
 
 
-class Runs:
-    def __init__(self, program):
-        self.program, self.count, self.wrong = os.path.abspath(program), 0, 0
+def run(program, data, words=(), **variables):
+    """The status, and the lines of what the program writes."""
+    ended = program.run([*words], input=data, variables=variables)
+    return ended.returncode, ended.stdout.splitlines()
 
-    def run(self, data, words=(), **variables):
-        ended = subprocess.run([self.program, *words], input=data, stdout=subprocess.PIPE, check=False, env=variables)
-        return ended.returncode, ended.stdout.splitlines()
 
-    def compared(self, about, expected, came):
-        self.count += 1
-        if expected != came:
-            self.wrong += 1
-            print(f"apart: {about}: status {came[0]}, where {expected[0]} is due", file=sys.stderr)
-            for lines, others, word in ((expected[1], came[1], "due"), (came[1], expected[1], "came")):
-                for line in [line for line in lines if line not in others][:10]:
-                    print(f"  {word}: {line}", file=sys.stderr)
-
-    def lines(self, about, *dumps):
-        data = b"# next\n".join(dump(rule_line(chain, line.words) for chain, line in lines) for lines in dumps)
-        self.compared(about, (0, due(*dumps)), self.run(data))
+def expect(program, *dumps):
+    """Compares what the program makes of dumps of lines, each with its chain."""
+    data = b"# next\n".join(dump(rule_line(chain, line.words) for chain, line in lines) for lines in dumps)
+    status, lines = run(program, data)
+    same((0, b"\n".join(due(*dumps))), (status, b"\n".join(lines)))
 
 
 def each_option(draw):
@@ -139,19 +125,17 @@ def edited(draw, lines):
     return kept
 
 
-def refusals(runs, data):
+def test_refusals(dump_cases, proved, folder):
     """Refuses each allocation of a run."""
-    whole, changed, number, last = runs.run(data), 0, 1, 0
-    with tempfile.TemporaryDirectory() as folder:
-        library = refuser(folder)
-        while number < MOST and number - last < FURTHER:
-            ended = runs.run(data, LD_PRELOAD=library, REFUSED=str(number))
-            if ended[0] == 4:
-                last, changed = number, changed + 1
-            if ended[0] not in (0, 4) or ended[0] == 0 and ended != whole:
-                runs.compared(f"allocation {number} refused", whole, ended)
-            number += 1
-    runs.compared("more than 100 allocations refused", (True, []), (changed > 100, []))
+    data, refused = dump(row[0] for row in LINES), preloaded(folder)
+    whole, changed, number, last = run(dump_cases, data), 0, 1, 0
+    while number < MOST and number - last < FURTHER:
+        status, lines = run(dump_cases, data, REFUSED=str(number), **refused)
+        assert status == 4 or (number, status, lines) == (number, *whole)
+        if status == 4:
+            last, changed = number, changed + 1
+        number += 1
+    assert changed > 100
 
 
 def section(lines):
@@ -168,37 +152,44 @@ def asked_by(chain, conditions):
         yield b"# %d %s: %s%s" % (number, text.split(b" ")[0].rstrip(b"@"), text.rstrip(b"@"), place)
 
 
-def rows_of_one(runs):
-    """The rows of one line or one dump."""
-    for given, own, *conditions in LINES:
-        chain = own.split(b" ")[1 + (own[:1] == b"[")]
-        runs.compared(given, (0, [b"*filter", own, b"COMMIT", *asked_by(chain, conditions)]), runs.run(dump([given])))
-    for given, printed in DUMPS:
-        runs.compared(given[:200], (0, printed.split(b"\n")), runs.run(given + b"\n"))
-    for given, number, fault in REFUSED:
-        runs.compared(given, (1, [b"line %d: %s" % (number + 1, fault)]), runs.run(section(given)))
-    for option, given, status, printed in ADDED:
-        runs.compared(option, (status, printed.splitlines()), runs.run(section(given), [option]))
+@pytest.mark.parametrize("row", LINES, ids=lambda row: repr(row[0])[2:60])
+def test_line(row, dump_cases):
+    given, own, *conditions = row
+    chain = own.split(b" ")[1 + (own[:1] == b"[")]
+    assert run(dump_cases, dump([given])) == (0, [b"*filter", own, b"COMMIT", *asked_by(chain, conditions)])
 
 
-def main(program, seed=SEED, lines=DRAWN):
-    runs, draw = Runs(program), random.Random(seed)
-    runs.lines("each option of the table", list(each_option(draw)))
-    for at in range(0, int(lines), TOGETHER):
+@pytest.mark.parametrize("given, due", DUMPS, ids=lambda text: repr(text)[2:40])
+def test_dump(given, due, dump_cases):
+    assert run(dump_cases, given + b"\n") == (0, due.split(b"\n"))
+
+
+@pytest.mark.parametrize("given, number, fault", REFUSED, ids=lambda text: repr(text)[2:40])
+def test_refused(given, number, fault, dump_cases):
+    assert run(dump_cases, section(given)) == (1, [b"line %d: %s" % (number + 1, fault)])
+
+
+@pytest.mark.parametrize("option, given, status, due", ADDED, ids=lambda text: repr(text)[:40])
+def test_added(option, given, status, due, dump_cases):
+    assert run(dump_cases, section(given), [option]) == (status, due.splitlines())
+
+
+@pytest.mark.parametrize("first, second, needs, further, conditions", PAIRS, ids=lambda text: repr(text)[2:40])
+def test_pair(first, second, needs, further, conditions, dump_cases):
+    status, lines = run(dump_cases, section(first) + b"# next\n" + section(second))
+    due = b"\n".join([needs, b"# next", further, conditions]).split(b"\n")
+    assert (status, [line for line in lines if line[:2] == b"# "]) == (0, due)
+
+
+def test_each_option(dump_cases, seed):
+    expect(dump_cases, list(each_option(random.Random(seed))))
+
+
+@pytest.mark.parametrize("at", range(0, DRAWN, TOGETHER))
+def test_drawn(at, dump_cases, seed, times):
+    """Lines from one on; and the same, with others among them."""
+    for number in range(at, DRAWN * times, DRAWN):
+        draw = random.Random(f"{seed} {number}")
         first = [drawn(draw) for _ in range(TOGETHER)]
-        runs.lines(f"lines drawn from {at} on", first)
-        runs.lines(f"the same, and others among them, from {at} on", first, edited(draw, first))
-    rows_of_one(runs)
-    for first, second, needs, further, conditions in PAIRS:
-        came = runs.run(section(first) + b"# next\n" + section(second))
-        came = (came[0], [line for line in came[1] if line[:2] == b"# "])
-        runs.compared((first, second), (0, b"\n".join([needs, b"# next", further, conditions]).split(b"\n")), came)
-    refusals(runs, dump(row[0] for row in LINES))
-    if runs.wrong:
-        print(f"apart: {runs.wrong} of {runs.count} runs were not as expected", file=sys.stderr)
-        sys.exit(1)
-    print(f"apart: {runs.count} runs were as expected")
-
-
-if __name__ == "__main__":
-    main(*sys.argv[1:])
+        expect(dump_cases, first)
+        expect(dump_cases, first, edited(draw, first))

@@ -1,6 +1,5 @@
-"""tests/run answers/asked AUDIT [SEED [RULESETS]]: asks AUDIT, which is iptaudit, about rulesets that are drawn at random, and compares its answers
-with those of the plain model of tests/model, which is asked about each kind of packet by itself. RULESETS is how many small ones are drawn;
-for each two of them there is a large one, so the run of the gate has 30 and 15.
+"""iptaudit about rulesets that are drawn at random, beside the plain model of tests/model, which is asked about each kind of packet by itself. For each
+two small rulesets there is a large one, so the run of the gate has 60 and 30. `--times N` draws N times as many, and `--seed SEED` others.
 
 Rules ask for a protocol, a source, an interface by its name or a beginning of it, flags, an ICMP type, and ports, also for both at once. On
 each field one packet stands for all that no rule tells from it, so that some hundred packets stand for all of INPUT.
@@ -22,8 +21,7 @@ also ask for ranges of ports:
 - `compare`, as above, with eight other rulesets after one to ten edits each: rules deleted, inserted, swapped, moved and put in twice, other
   verdicts, another policy, a chain more or less, dead rules taken out; and with the ruleset without its dead rules, which is the same.
 
-No answer may be unclear. The same SEED draws the same rulesets; without these words it is the run of the gate. It ends with 1 at the first
-ruleset whose answers differ, which it prints with the answer, and with 0 where none does.
+No answer may be unclear.
 """
 
 import collections
@@ -32,8 +30,8 @@ import os
 import random
 import re
 import subprocess
-import sys
-import tempfile
+
+import pytest
 
 from tests.drawn.rulesets.changes import ways
 from tests.drawn.rulesets.edits import edited
@@ -42,9 +40,8 @@ from tests.drawn.rulesets.model import dead_of, matched, packets_of, reply, verd
 from tests.drawn.rulesets.ruleset import target_of, verdict_of
 from tests.drawn.rulesets.small import FLAGS, OTHERS, PORTS, SOURCES, TYPES, Small
 
-SEED, RULESETS = "1", 30
-# For so many small rulesets there is a large one, of which so many edited ones are drawn.
-SMALL, EDITED = 2, 8
+# How many small rulesets are drawn, and how many large ones, of each of which so many edited ones are drawn.
+SMALL, LARGE, EDITED = 60, 30, 8
 FIELDS = ("proto", "frag", "sport", "dport", "flags", "icmp")
 # What `compare` shows of packets that get two verdicts.
 WALKS = r"(packet .*)\nold:\n((?:.*\n)*)new:\n((?:.*\n)*)"
@@ -330,30 +327,19 @@ def expect_large(audit, draw, folder):
     return counts
 
 
-def main():
-    if len(sys.argv) not in (2, 3, 4) or not os.access(sys.argv[1], os.X_OK):
-        print("asked: call it as tests/run answers/asked AUDIT [SEED [RULESETS]], with a program that can be run", file=sys.stderr)
-        return 2
-    audit = os.path.abspath(sys.argv[1])
-    seed = sys.argv[2] if len(sys.argv) > 2 else SEED
-    rulesets = int(sys.argv[3]) if len(sys.argv) > 3 else RULESETS
-    draw, draw_large, counts = random.Random(seed), random.Random(f"{seed} large"), collections.Counter(dict.fromkeys(DUE, 0))
-    with tempfile.TemporaryDirectory() as folder:
-        try:
-            for _ in range(rulesets):
-                counts.update(expect_small(audit, draw, folder))
-            for _ in range(rulesets // SMALL):
-                counts.update(expect_large(audit, draw_large, folder))
-        except Wrong as wrong:
-            print(f"asked: with the seed {seed}, of these rulesets:\n{wrong}", file=sys.stderr)
-            return 1
-    missing = [kind for kind in DUE if len(sys.argv) == 2 and not counts[kind]]
-    if missing:
-        print(f"asked: no answer was {missing[0]!r}, so the run shows less than it says", file=sys.stderr)
-        return 1
-    print(f"asked: {rulesets} small rulesets and {rulesets // SMALL} large ones, whose answers were as expected: "
-          + ", ".join(f"{kind} {count}" for kind, count in counts.items()))
-    return 0
+def drawn(kind, number, folder, iptaudit, seed, times):
+    """Asks about each ruleset of a kind and a number; returns how often each answer came."""
+    counts, expect, rulesets = collections.Counter(), *{"small": (expect_small, SMALL), "large": (expect_large, LARGE)}[kind]
+    for at in range(number, 1 + rulesets * times, rulesets):
+        counts.update(expect(iptaudit.path, random.Random(f"{seed} {kind} {at}"), folder))
+    return counts
 
 
-sys.exit(main())
+@pytest.mark.parametrize("kind, number", [*(("small", number) for number in range(1, 1 + SMALL)), *(("large", number) for number in range(1, 1 + LARGE))])
+def test_asked(kind, number, folder, iptaudit, seed, times, sum_up):
+    try:
+        counts = sum_up("asked", SMALL + LARGE, drawn(kind, number, folder, iptaudit, seed, times))
+    except Wrong as wrong:
+        pytest.fail(f"with the seed {seed}, of these rulesets:\n{wrong}", pytrace=False)
+    if counts:
+        assert [kind for kind in DUE if not counts[kind]] == []

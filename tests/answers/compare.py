@@ -1,27 +1,27 @@
-"""tests/run answers/compare PROGRAM [SEED [LINES]]: gives sessions and restores that are drawn at random, some of them after a file that is
-loaded, to PROGRAM and to the plain model of tests/model, and compares what they write and their statuses to the byte.
+"""Sessions and restores that are drawn at random, some of them after a file that is loaded, given to iptsim and to the plain model of tests/model: what
+they write and their statuses are the same, to the byte.
 
-The same SEED draws the same inputs; they have LINES lines together at least. Without these words it is the run of the gate, which
-is some 100,000 lines; there each kind of answer that DUE names has to come often enough, or the run shows less than it says.
+The run of the gate is some 100,000 lines; there each kind of answer that DUE names has to come often enough, or the run shows less than it says.
+`--times N` draws N times as many, and `--seed SEED` others.
 
-At the first input whose answers differ it prints the shortest beginning of it that still differs, less what it doesn't need, with
-its file, both answers and the seed, and ends with 1. It ends with 0 where all are equal, and says how many lines and answers of each kind
-were compared.
+At an input whose answers differ a test shows the shortest beginning of it that still differs, less what it doesn't need, with its file, both answers
+and the seed.
 """
 
 import collections
-import os
-import subprocess
 import sys
-import tempfile
+
+import pytest
 
 from tests import ROOT
 from tests.drawn.sessions.inputs import drawn_input
-from tests.drawn.sessions.limits import limit_inputs
+from tests.drawn.sessions.limits import LIMITS, limit_input
 from tests.model.faults import TEXTS
 from tests.model.session import answer as due
+from tests.shared.rows import Command
 
-SEED, LINES, LEAST = "1", 100_000, 20
+# With those that come to the limits, so many inputs of the gate's seed have some more than so many lines.
+INPUTS, LINES, PARTS, LEAST = 1048, 100_000, 16, 20
 VERDICTS = ("ACCEPT by rule", "DROP by rule", "REJECT by rule", "ACCEPT by policy", "DROP by policy")
 STEPS = ("jump", "goto", "RETURN", "end of a chain", "LOG", "no target", "RETURN in a built-in chain", "end after a goto")
 # Each has to come LEAST times in the run of the gate.
@@ -31,12 +31,8 @@ DUE = (*TEXTS, *VERDICTS, *STEPS, *FILES)
 
 def answer(program, words, data, file):
     """The program's output, what it writes to standard error, and its status. A signal that ended it is a status below zero."""
-    with tempfile.NamedTemporaryFile() as load:
-        if file is not None:
-            load.write(file)
-            load.flush()
-            words = [*words, "--load", load.name]
-        ended = subprocess.run([program, *words], input=data, capture_output=True, check=False)
+    words = words if file is None else [*words, "--load", "file"]
+    ended = program.run(words, {} if file is None else {"file": file}, data)
     return ended.stdout, ended.stderr, ended.returncode
 
 
@@ -88,56 +84,44 @@ class Difference:
     def report(self, seed):
         data, file = self.shortest()
         came, wanted = answer(self.program, self.words, data, file), due(self.words, data, file)
-        print(f"compare: the program and the model differ on an input of the seed {seed}: {' '.join(self.words)}", file=sys.stderr)
         texts = [] if file is None else [("the file", file)]
         texts += [("input", data), ("the program", came[0] + came[1]), ("the model", wanted[0] + wanted[1])]
+        lines = [f"the program and the model differ on an input of the seed {seed}: {' '.join(self.words)}"]
         for head, text in texts:
-            print(f"== {head}", file=sys.stderr)
-            for line in text.split(b"\n"):
-                print("  " + repr(line)[2:-1], file=sys.stderr)
-        print(f"== statuses: {came[2]} of the program, {wanted[2]} of the model", file=sys.stderr)
+            lines += [f"== {head}", *("  " + repr(line)[2:-1] for line in text.split(b"\n"))]
+        return "\n".join([*lines, f"== statuses: {came[2]} of the program, {wanted[2]} of the model"])
 
 
-def is_program_of_model(each):
-    """Whether tests/model/plain answers as its modules do."""
-    return answer(os.path.join(ROOT, "tests", "run"), ["model/plain", *each.words], each.data, each.file) == each.due
+def counted(program, name, each):
+    """Compares the answers to an input: how often each kind came, and how many lines there were."""
+    if answer(program, each.words, each.data, each.file) != each.due:
+        pytest.fail(Difference(program, each.words, each.data, each.file).report(name), pytrace=False)
+    return {**each.counts, "lines": each.data.count(b"\n")}
 
 
-def inputs(seed, lines):
-    """The inputs of a seed, each with its name: first those that come to the limits."""
-    drawn = 0
-    for name, each in limit_inputs(seed):
-        drawn += each.data.count(b"\n")
-        yield name, each
-    number = 0
-    while drawn < lines:
-        number += 1
-        each = drawn_input(f"{seed} {number}")
-        drawn += each.data.count(b"\n")
-        yield f"{seed} {number}", each
+@pytest.mark.parametrize("name", LIMITS)
+def test_limit(name, iptsim, seed, sum_up):
+    expect_often(seed, sum_up("compare", PARTS + len(LIMITS), counted(iptsim, name, limit_input(f"{seed} {name}"))))
 
 
-def main(program, seed=SEED, lines=LINES):
-    counts, total, sessions = collections.Counter(), 0, 0
-    for name, each in inputs(seed, int(lines)):
-        sessions += 1
-        total += each.data.count(b"\n")
-        counts.update(each.counts)
-        if answer(program, each.words, each.data, each.file) != each.due:
-            Difference(program, each.words, each.data, each.file).report(name)
-            return 1
-        if sessions % 50 == 0 and not is_program_of_model(each):
-            print(f"compare: tests/model/plain and its modules differ on an input of the seed {name}: {' '.join(each.words)}", file=sys.stderr)
-            return 1
-    print(f"compare: {sessions} sessions and restores with {total} lines were answered as by the model: " +
-          ", ".join(f"{kind} {counts[kind]}" for kind in DUE))
-    seldom = [kind for kind in DUE if counts[kind] < LEAST]
-    if seldom and (seed, int(lines)) == (SEED, LINES):
-        print(f"compare: came less than {LEAST} times: {', '.join(seldom)}", file=sys.stderr)
-        return 1
-    return 0
+@pytest.mark.parametrize("part", range(PARTS))
+def test_drawn(part, iptsim, seed, times, sum_up):
+    counts = collections.Counter()
+    for number in range(1 + part, 1 + INPUTS * times, PARTS):
+        name = f"{seed} {number}"
+        counts.update(counted(iptsim, name, drawn_input(name)))
+    expect_often(seed, sum_up("compare", PARTS + len(LIMITS), counts))
 
 
-if not 2 <= len(sys.argv) <= 4:
-    sys.exit(__doc__)
-sys.exit(main(os.path.abspath(sys.argv[1]), *sys.argv[2:]))
+def expect_often(seed, counts):
+    """Whether all parts of the gate's run, where they have ended, had each kind of answer often enough."""
+    if counts and seed == "1":
+        assert counts["lines"] >= LINES and {kind: counts[kind] for kind in DUE if counts[kind] < LEAST} == {}
+
+
+@pytest.mark.parametrize("number", range(50, INPUTS, 50))
+def test_plain(number, seed):
+    """tests/model/plain answers as its modules do."""
+    name = f"{seed} {number}"
+    each, plain = drawn_input(name), Command(sys.executable, PYTHONPATH=ROOT)
+    assert answer(plain, ["-m", "tests.model.plain", *each.words], each.data, each.file) == each.due

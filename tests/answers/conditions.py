@@ -1,5 +1,5 @@
-"""tests/run answers/conditions CALLS [SEED [RULESETS]]: asks CALLS, which is the program `calls`, about rulesets that are drawn at random, whose
-rules also need conditions that the program doesn't know, and compares its answers with those of all assignments, taken one by one.
+"""Questions about rulesets that are drawn at random, whose rules also need conditions that the program doesn't know, by the program `calls`: its answers
+beside those of all assignments, taken one by one. `--times N` draws N times as many, and `--seed SEED` others.
 
 A ruleset has up to eleven rules, in INPUT and in one chain to which they jump or go; on each field one packet stands for all that no rule tells from it
 (tests/answers/asked). Two of three rules need one condition or two, some of them that it doesn't hold, and a few both; there are up to five, and in
@@ -15,21 +15,20 @@ matches what it matches by itself, if all holds that it needs.
 - of two rulesets, of which the second is the first one after an edit: `same` just if they give each packet the same verdict under each assignment; else a
   packet that gets two under each assignment that gives the answers.
 
-No answer may be unclear. The same SEED draws the same rulesets; without these words it is the run of the gate. It ends with 1 at the first
-ruleset whose answers differ, which it prints with the answer, and with 0 where none does.
+No answer may be unclear.
 """
 
 import itertools
 import random
-import subprocess
-import sys
+
+import pytest
 
 from tests.drawn.rulesets.large import Large
 from tests.drawn.rulesets.model import matched, packets_of
 from tests.drawn.rulesets.ruleset import target_of, verdict_of
 from tests.drawn.rulesets.small import Small
 
-SEED, RULESETS = "1", 60
+RULESETS = 60
 # How many conditions there are: few, or many in one ruleset of so many.
 FEW, MANY, OFTEN = 5, 10, 50
 # How many there are in a large ruleset, which is one of so many.
@@ -163,14 +162,14 @@ def edited(draw, small, ruleset, needs, conditions):
 
 def asked(calls, text, compared):
     """What the program says of a text, which is compared."""
-    run = subprocess.run([calls, "conditions"], input=text.encode(), capture_output=True, check=False)
-    said = run.stdout.decode()
+    ended = calls.run(["conditions"], input=text.encode())
+    said = ended.stdout.decode()
     try:
-        if run.returncode:
-            raise Wrong(f"status {run.returncode}")
+        if ended.returncode:
+            raise Wrong(f"status {ended.returncode}")
         compared(said)
     except Wrong as wrong:
-        sys.exit(f"{text}\n{said}\n{wrong}")
+        pytest.fail(f"{text}\n{said}\n{wrong}", pytrace=False)
 
 
 def check(calls, draw, at, seen):
@@ -274,19 +273,11 @@ def compare(ruleset, needs, conditions, said, packets, seen):
         raise Wrong(f"nothing is told of {left}")
 
 
-def main():
-    """Draws rulesets, and tells how many were asked about."""
-    if len(sys.argv) not in (2, 3, 4):
-        sys.exit(__doc__)
-    seed, count = (sys.argv[2:] + [SEED, str(RULESETS)][len(sys.argv) - 2:])[:2]
+@pytest.mark.parametrize("number", range(RULESETS))
+def test_conditions(number, calls, seed, times, sum_up):
     seen = set()
-    for at in range(int(count)):
-        check(sys.argv[1], random.Random(f"{seed} {at}"), at, seen)
-    missing = [kind for kind in DUE if kind not in seen]
-    if missing and int(count) >= RULESETS:
-        sys.exit(f"conditions: never came: {', '.join(missing)}")
-    print(f"conditions: {count} rulesets were answered as by all assignments")
-
-
-if __name__ == "__main__":
-    main()
+    for at in range(number, RULESETS * times, RULESETS):
+        check(calls, random.Random(f"{seed} {at}"), at, seen)
+    counts = sum_up("conditions", RULESETS, dict.fromkeys(seen, 1))
+    if counts:
+        assert [kind for kind in DUE if not counts[kind]] == []

@@ -1,14 +1,9 @@
-"""tests/run commands/at_fault PROGRAM: the words at fault in lines of sessions that the program refuses, by bin/check --session and by the call
-that other scripts make; compared to the byte.
+"""The words at fault in lines of sessions that the program refuses, by bin/check --session and by the call that other scripts make; to the byte."""
 
-It ends with status 1 where a run isn't as expected, and says what differs.
-"""
-
-import os
-import sys
+import pytest
 
 from commands.at_fault import explained
-from tests.shared.rows import Rows
+from tests.shared.rows import Row, each
 
 # Lines of a session, each with what is due: nothing where it is accepted. The table has the chains `office` and `later` in the end.
 SESSION = [
@@ -100,45 +95,47 @@ SESSION = [
 LOADED = b"*filter\n:guests - [0:0]\n-A INPUT -j guests\nCOMMIT\n"
 
 
-def session_rows(rows):
+DATA = b"".join(line + b"\n" for line, _ in SESSION)
+
+
+def session_rows():
     """Sessions, by themselves and with a dump that is loaded."""
-    data = b"".join(line + b"\n" for line, _ in SESSION)
     due = b"".join(b"s:%d: %s\n" % (number, text) for number, (_, text) in enumerate(SESSION, 1) if text)
-    rows.row("lines of a session", ["--session", "s"], {"s": data}, due, 1)
+    yield Row("lines of a session", ["--session", "s"], {"s": DATA}, due, 1)
     good, bad = b"# x\n\niptables -A guests -j DROP\nlines guests\n", b"iptables -A INPUT -j gests\niptables -F guests\n"
     files = {"d": LOADED, "good": good, "bad": bad, "refused": b"*filter\n-A INPUT -m limit -j DROP\nCOMMIT\n"}
-    rows.row("a session on a dump", ["--session", "--load", "d", "good"], files, b"", 0)
-    rows.row("two of which one is refused", ["--session", "--load", "d", "bad", "good"], files,
-             b"bad:1: T11 target chain missing: gests (guests?)\n", 1)
-    rows.row("a session without the dump", ["--session", "-"], files, b"-:3: T1 no such chain: guests\n-:4: T1 no such chain: guests\n", 1,
-             input=good)
-    rows.row("a dump that doesn't load", ["--session", "--load", "refused", "good"], files, b"", 2,
-             b"line 2: P7 unknown match\ncheck: refused doesn't load: bin/check refused says why\n")
-    rows.row("a missing session", ["--session", "nothing", "good"], files, b"good:3: T1 no such chain: guests\ngood:4: T1 no such chain: guests\n",
-             2, b"check: cannot read nothing: No such file or directory\n")
+    yield Row("a session on a dump", ["--session", "--load", "d", "good"], files, b"", 0)
+    yield Row("two of which one is refused", ["--session", "--load", "d", "bad", "good"], files,
+              b"bad:1: T11 target chain missing: gests (guests?)\n", 1)
+    yield Row("a session without the dump", ["--session", "-"], files, b"-:3: T1 no such chain: guests\n-:4: T1 no such chain: guests\n", 1,
+              input=good)
+    yield Row("a dump that doesn't load", ["--session", "--load", "refused", "good"], files, b"", 2,
+              b"line 2: P7 unknown match\ncheck: refused doesn't load: bin/check refused says why\n")
+    yield Row("a missing session", ["--session", "nothing", "good"], files, b"good:3: T1 no such chain: guests\ngood:4: T1 no such chain: guests\n",
+              2, b"check: cannot read nothing: No such file or directory\n")
 
 
-def call_rows(rows):
-    """The call for one line, with its reply as it stands in the session and without the number."""
-    os.environ["IPTSIM"] = rows.environment["IPTSIM"]
-    data = b"".join(line + b"\n" for line, _ in SESSION)
-    replies = rows.of_program(["session"], data).splitlines()
-    replies = {int(reply.split(b" ")[1][:-1]): reply for reply in replies if reply.startswith(b"line ")}
-    due, came = [], []
-    for number, reply in replies.items():
-        line, text = SESSION[number - 1]
-        if not text.startswith(b"S3"):
-            due.append(text)
-            came.append(explained(line, reply if number % 2 else reply.partition(b": ")[2], [b"office", b"later"]))
-    rows.compared(f"{len(due)} lines by themselves", (0, b"\n".join(due)), (0, b"\n".join(came)))
+@each(session_rows)
+def test_session(row, command):
+    command("check").check(row)
 
 
-def main(program):
-    rows = Rows("at_fault", program, "check")
-    session_rows(rows)
-    call_rows(rows)
-    rows.end()
+@pytest.fixture(scope="module")
+def replies(iptsim):
+    """The replies to the session that are faults, by the numbers of lines."""
+    return {int(reply.split(b" ")[1][:-1]): reply for reply in iptsim.said(["session"], DATA).splitlines() if reply.startswith(b"line ")}
 
 
-if __name__ == "__main__":
-    main(sys.argv[1])
+REFUSED = [(number, line, text) for number, (line, text) in enumerate(SESSION, 1) if text and not text.startswith(b"S3")]
+
+
+@pytest.mark.parametrize("number, line, text", REFUSED, ids=[repr(text)[2:60] for _, _, text in REFUSED])
+def test_call(number, line, text, replies, iptsim, monkeypatch):
+    """The call for one line, with its reply as it stands in the session or without the number."""
+    monkeypatch.setenv("IPTSIM", iptsim.path)
+    reply = replies[number]
+    assert explained(line, reply if number % 2 else reply.partition(b": ")[2], [b"office", b"later"]) == text
+
+
+def test_no_other_line_is_refused(replies):
+    assert sorted(replies) == [number for number, (_, text) in enumerate(SESSION, 1) if text]

@@ -1,15 +1,13 @@
-"""tests/run commands/check PROGRAM: runs bin/check with the program on rows of dumps, and compares what it writes and its status to the byte.
-
-It ends with status 1 where a run isn't as expected, and says what differs.
-"""
+"""bin/check on rows of dumps: what it writes and its status, to the byte."""
 
 import json
 import os
 import signal
-import sys
+
+import pytest
 
 from tests import ROOT
-from tests.shared.rows import Rows
+from tests.shared.rows import UNREAD, Row, each
 
 POLICIES = b":INPUT DROP [1:60]\n:FORWARD DROP [0:0]\n:OUTPUT ACCEPT [0:0]\n"
 LOADS = (b"# Generated\n*nat\n-A x -j MASQUERADE\nCOMMIT\n*filter\n" + POLICIES +
@@ -27,6 +25,7 @@ MULTIPORT = b"write its option in full: --sports, --dports or --ports."
 COMMAND = b"a line of a dump begins with its command, such as -A."
 CHAIN = b"no such chain: make it with a line `:NAME - [0:0]` above."
 TARGET = b"neither a chain nor a target of iptsim: make a chain with a line `:NAME - [0:0]` above."
+NO_PROGRAM = b"check: cannot run /nothing: No such file or directory; IPTSIM has to name the program\n"
 WHOLE = b"a section ends with the line COMMIT: is the file complete?"
 
 # Lines of one section, each with its fault and the word that is refused; None where it is accepted.
@@ -246,102 +245,94 @@ def long_rule(length, end):
     return line % (b" " * blanks, b",ACK" * flags)
 
 
-def long_rows(rows):
+def long_rows():
     """Lines of 10,240 bytes are read, and those of one more aren't."""
     fits = long_rule(10240, b" -j DROP")
     over = b"#" + b"x" * 10240
     lines = [b"*nat", over[1:], b"COMMIT", b"*filter", fits, over[:-1], b"COMMIT"]
-    rows.row("long lines that load", ["d"], {"d": b"\n".join(lines)}, b"", 0)
+    yield Row("long lines that load", ["d"], {"d": b"\n".join(lines)}, b"", 0)
     lines = [b"*nat", over, b"COMMIT", over, b"*filter", over, long_rule(10240, b" -m limit"), long_rule(10240, b"  -j QUEUE"), fits + b" ",
              long_rule(10240, b" -m mark"), long_rule(9000, b"X"), b"-A INPUT -j nowhere", b"COMMIT"]
-    rows.row("long lines that don't", ["d"], {"d": b"\n".join(lines)},
-             b"d:2: R6 line too long: 10241 bytes\nd:4: R6 line too long: 10241 bytes\nd:6: R6 line too long: 10241 bytes\nd:7:" + LIMIT +
-             b"d:8: P3 bad value: QUEUE\nd:9: R6 line too long: 10241 bytes\nd:10: P7 unknown match: mark\n"
-             b"d:11: P3 bad value: SYNX\nd:12: T11 target chain missing: nowhere\n"
-             b"d: limit: " + MEMORY + b"\nd: mark: " + UNKNOWN + b"\nd: nowhere: " + TARGET + b"\n", 1)
+    yield Row("long lines that don't", ["d"], {"d": b"\n".join(lines)},
+              b"d:2: R6 line too long: 10241 bytes\nd:4: R6 line too long: 10241 bytes\nd:6: R6 line too long: 10241 bytes\nd:7:" + LIMIT +
+              b"d:8: P3 bad value: QUEUE\nd:9: R6 line too long: 10241 bytes\nd:10: P7 unknown match: mark\n"
+              b"d:11: P3 bad value: SYNX\nd:12: T11 target chain missing: nowhere\n"
+              b"d: limit: " + MEMORY + b"\nd: mark: " + UNKNOWN + b"\nd: nowhere: " + TARGET + b"\n", 1)
 
 
-def large_rows(rows):
+def large_rows():
     """A full chain, and more chains than a table has."""
     rules = [b"-A a"] * 8192
     section = [b"*filter", b":a -", b"-A INPUT -m limit", *rules, b"-A a -j DROP", b"COMMIT"]
-    rows.row("a full chain", ["d"], {"d": b"\n".join(section)},
-             b"d:3:" + LIMIT + b"d:8196: T14 chain full: a (8,193 rules, of 8,192 at most)\nd: limit: " + MEMORY + b"\n", 1)
+    yield Row("a full chain", ["d"], {"d": b"\n".join(section)},
+              b"d:3:" + LIMIT + b"d:8196: T14 chain full: a (8,193 rules, of 8,192 at most)\nd: limit: " + MEMORY + b"\n", 1)
     # Each chain of each section has a line of its own, whatever stands between.
     over = [b"-A a -j DROP", b"-I a 1", b"-A INPUT -j nowhere", b"-A a"]
     section = [b"*filter", b":a -", *rules, *over, b"COMMIT"]
-    rows.row("full chains", ["d"], {"d": b"\n".join([*section, *section])},
-             b"d:8195: T14 chain full: a (8,195 rules, of 8,192 at most)\nd:8197: T11 target chain missing: nowhere\n"
-             b"d:16394: T14 chain full: a (8,195 rules, of 8,192 at most)\nd:16396: T11 target chain missing: nowhere\n"
-             b"d: nowhere: " + TARGET + b"\n", 1)
+    yield Row("full chains", ["d"], {"d": b"\n".join([*section, *section])},
+              b"d:8195: T14 chain full: a (8,195 rules, of 8,192 at most)\nd:8197: T11 target chain missing: nowhere\n"
+              b"d:16394: T14 chain full: a (8,195 rules, of 8,192 at most)\nd:16396: T11 target chain missing: nowhere\n"
+              b"d: nowhere: " + TARGET + b"\n", 1)
     chains = [b":c%d - [0:0]" % number for number in range(1026)]
-    rows.row("too many chains", ["d"], {"d": b"\n".join([b"*filter", *chains, b"-A c1023 -j c1024", b"-A c1025 -j c1", b"COMMIT"])},
-             b"d:1026: T15 too many chains: :c1024\nd:1027: T15 too many chains: :c1025\n", 1)
+    yield Row("too many chains", ["d"], {"d": b"\n".join([b"*filter", *chains, b"-A c1023 -j c1024", b"-A c1025 -j c1", b"COMMIT"])},
+              b"d:1026: T15 too many chains: :c1024\nd:1027: T15 too many chains: :c1025\n", 1)
 
 
-def alike_rows(rows):
+def alike_rows():
     """Many words of one kind: eight are named."""
     for count in (8, 9, 10):
         names = [b"name%d" % number for number in range(count)]
         due = b"".join(b"d:%d: P3 bad value: %s\n" % (number, name) for number, name in enumerate(names, 2))
         told = b", ".join(names[:8]) + (b", .." if count > 8 else b"")
-        rows.row(f"{count} words", ["d"], {"d": b"*filter\n" + b"".join(b"-A INPUT -s %s -j DROP\n" % name for name in names) + b"COMMIT\n"},
-                 due + b"d: " + told + b": " + ADDRESS + b"\n", 1)
+        yield Row(f"{count} words", ["d"], {"d": b"*filter\n" + b"".join(b"-A INPUT -s %s -j DROP\n" % name for name in names) + b"COMMIT\n"},
+                  due + b"d: " + told + b": " + ADDRESS + b"\n", 1)
 
 
-def word_rows(rows):
+def word_rows():
     """Several files, their names, and what can't be read."""
     refused = b":2:" + LIMIT + b"%s: limit: " + MEMORY + b"\n"
     files = {"good": LOADS, "bad": REFUSED, "two words": REFUSED, "-x": REFUSED, b"\xff".decode(errors="surrogateescape"): REFUSED}
-    rows.row("several files", ["bad", "good", "two words"], files, b"bad" + refused % b"bad" + b"two words" + refused % b"two words", 1)
-    rows.row("a name with `-`", ["--", "-x"], files, b"-x" + refused % b"-x", 1)
-    rows.row("a name that is no text", [b"\xff"], files, b"\xff" + refused % b"\xff", 1)
-    rows.row("a missing file among others", ["bad", "nothing", "good"], files, b"bad" + refused % b"bad", 2,
-             b"check: cannot read nothing: No such file or directory\n")
-    rows.row("a folder", ["."], files, b"", 2, b"check: cannot read .: Is a directory\n")
-    rows.row("an empty name", [""], files, b"", 2, b"check: cannot read : No such file or directory\n")
-    rows.row("a pipe", ["/dev/stdin"], files, b"/dev/stdin:2:" + LIMIT + b"/dev/stdin: limit: " + MEMORY + b"\n", 1, input=REFUSED)
+    yield Row("several files", ["bad", "good", "two words"], files, b"bad" + refused % b"bad" + b"two words" + refused % b"two words", 1)
+    yield Row("a name with `-`", ["--", "-x"], files, b"-x" + refused % b"-x", 1)
+    yield Row("a name that is no text", [b"\xff"], files, b"\xff" + refused % b"\xff", 1)
+    yield Row("a missing file among others", ["bad", "nothing", "good"], files, b"bad" + refused % b"bad", 2,
+              b"check: cannot read nothing: No such file or directory\n")
+    yield Row("a folder", ["."], files, b"", 2, b"check: cannot read .: Is a directory\n")
+    yield Row("an empty name", [""], files, b"", 2, b"check: cannot read : No such file or directory\n")
+    yield Row("a pipe", ["/dev/stdin"], files, b"/dev/stdin:2:" + LIMIT + b"/dev/stdin: limit: " + MEMORY + b"\n", 1, input=REFUSED)
     usage = b"usage: check [-h] [--session] [--load DUMP] [--json] FILE [FILE ...]\ncheck: error: "
     needed = usage + b"the following arguments are required: FILE\n"
-    rows.row("no words", [], {}, b"", 2, needed)
-    rows.row("a name with `-` without `--`", ["-x"], files, b"", 2, needed)
-    rows.row("--load without --session", ["--load", "good", "bad"], files, b"", 2, usage + b"--load goes with --session\n")
-    rows.row("standard input", ["good", "-"], files, b"-:2:" + LIMIT + b"-: limit: " + MEMORY + b"\n", 1, input=REFUSED)
-    rows.row("no standard input", ["-"], files, b"", 2, b"check: cannot read -: Bad file descriptor\n", preexec_fn=lambda: os.close(0))
-    closed, output = os.pipe()
-    os.close(closed)
-    rows.row("a closed pipe", ["bad"], files, b"", -signal.SIGPIPE, stdout=output)
-    buffered = {name: value for name, value in rows.environment.items() if name != "PYTHONUNBUFFERED"}
-    rows.row("a closed pipe, and help", ["--help"], files, b"", -signal.SIGPIPE, stdout=output, env=buffered)
-    os.close(output)
-    with open("/dev/full", "wb") as full:
-        rows.row("a full device", ["bad"], files, b"", 2, b"check: output failed\n", stdout=full)
-    missing = dict(rows.environment, IPTSIM="/nothing")
-    rows.row("no program", ["good"], files, b"", 2,
-             b"check: cannot run /nothing: No such file or directory; IPTSIM has to name the program\n", env=missing)
-    broken = dict(rows.environment, IPTSIM="/bin/false")
-    rows.row("a program that ends at once", ["good", "bad"], files, b"", 2,
-             b"check: the program ended with status 1 and named no line\n", env=broken)
+    yield Row("no words", [], {}, b"", 2, needed)
+    yield Row("a name with `-` without `--`", ["-x"], files, b"", 2, needed)
+    yield Row("--load without --session", ["--load", "good", "bad"], files, b"", 2, usage + b"--load goes with --session\n")
+    yield Row("standard input", ["good", "-"], files, b"-:2:" + LIMIT + b"-: limit: " + MEMORY + b"\n", 1, input=REFUSED)
+    yield Row("no standard input", ["-"], files, b"", 2, b"check: cannot read -: Bad file descriptor\n", input=None)
+    yield Row("a closed pipe", ["bad"], files, b"", -signal.SIGPIPE, stdout=UNREAD)
+    yield Row("a closed pipe, and help", ["--help"], files, b"", -signal.SIGPIPE, stdout=UNREAD, variables={"PYTHONUNBUFFERED": None})
+    yield Row("a full device", ["bad"], files, b"", 2, b"check: output failed\n", stdout="/dev/full")
+    yield Row("no program", ["good"], files, b"", 2, NO_PROGRAM, variables={"IPTSIM": "/nothing"})
+    yield Row("a program that ends at once", ["good", "bad"], files, b"", 2, b"check: the program ended with status 1 and named no line\n",
+              variables={"IPTSIM": "/bin/false"})
 
 
 SIX = b"check: %s: a rule for IPv6 only%s: skipped, as by iptables-restore, but bin/iptsim refuses it; bin/fit removes it\n"
 
 
-def six_rows(rows):
+def six_rows():
     """Rules for IPv6 alone, which iptables-restore passes over: the option where an option may stand, and not a value."""
     def dump(*lines):
         return {"d": b"".join(line + b"\n" for line in (b"*filter", *lines, b"COMMIT"))}
 
-    rows.row("a rule for IPv6", ["d"], dump(b"-A INPUT -6 -j DROP"), b"", 0, SIX % (b"d:2", b""))
-    rows.row("rules for both", ["d"], dump(b"-A INPUT -s fe80::/10 --ipv6", b"-A INPUT -j DROP", b"[1:2] -A INPUT -p icmpv6 -m icmp6 -6"), b"", 0,
-             SIX % (b"d:2", b", and 1 more"))
-    rows.row("before the command", ["d"], dump(b"-6 -A INPUT -j DROP", b"[1:2] --ipv6 -A INPUT -j DROP"), b"", 0, SIX % (b"d:2", b", and 1 more"))
-    rows.row("one beside a fault", ["d"], dump(b"-A INPUT -6 -j NOTHING", b"-A INPUT -m limit"), b"d:3:" + LIMIT + OF_LIMIT, 1,
-             SIX % (b"d:2", b""))
-    rows.row("values and words", ["d"], dump(b"-A INPUT -m comment --comment -6", b"-A INPUT -m comment --comment \"x -6\"",
-                                             b"-A INPUT -j LOG --log-prefix --ipv6"), b"", 0)
-    rows.row("in another place", ["d"], {"d": b"-A INPUT -6\n*nat\n-A x -6\nCOMMIT\n" + LOADS}, b"d:1: R1 line not allowed here: -A\n", 1)
-    rows.row("rules for IPv4", ["d"], dump(b"-A INPUT -4 -j DROP"), b"d:2: P1 unknown option: -4\nd: -4: " + OPTION + b"\n", 1)
+    yield Row("a rule for IPv6", ["d"], dump(b"-A INPUT -6 -j DROP"), b"", 0, SIX % (b"d:2", b""))
+    yield Row("rules for both", ["d"], dump(b"-A INPUT -s fe80::/10 --ipv6", b"-A INPUT -j DROP", b"[1:2] -A INPUT -p icmpv6 -m icmp6 -6"), b"", 0,
+              SIX % (b"d:2", b", and 1 more"))
+    yield Row("before the command", ["d"], dump(b"-6 -A INPUT -j DROP", b"[1:2] --ipv6 -A INPUT -j DROP"), b"", 0, SIX % (b"d:2", b", and 1 more"))
+    yield Row("one beside a fault", ["d"], dump(b"-A INPUT -6 -j NOTHING", b"-A INPUT -m limit"), b"d:3:" + LIMIT + OF_LIMIT, 1,
+              SIX % (b"d:2", b""))
+    yield Row("values and words", ["d"], dump(b"-A INPUT -m comment --comment -6", b"-A INPUT -m comment --comment \"x -6\"",
+                                              b"-A INPUT -j LOG --log-prefix --ipv6"), b"", 0)
+    yield Row("in another place", ["d"], {"d": b"-A INPUT -6\n*nat\n-A x -6\nCOMMIT\n" + LOADS}, b"d:1: R1 line not allowed here: -A\n", 1)
+    yield Row("rules for IPv4", ["d"], dump(b"-A INPUT -4 -j DROP"), b"d:2: P1 unknown option: -4\nd: -4: " + OPTION + b"\n", 1)
 
 
 def of_json(files, loading, faults):
@@ -355,7 +346,7 @@ def file_of_json(name, faults=(), advice=(), passed=(), loads=False, error=None)
             "advice": [{"words": words, "text": text} for words, text in advice], "passed_over": list(passed)}
 
 
-def json_rows(rows):
+def json_rows():
     """Documents, which the schema allows, and wrong ones, which it doesn't."""
     files = {"good": LOADS, "empty": b"", "six": b"*filter\n-A x -6\nCOMMIT\n", "d\udcff": b"*filter\n-A INPUT -j A\xff\x01\xc3\xa4" + b"x" * 90 +
              b"\n-A INPUT -m limit\nCOMMIT\n", "s": b"packet input\niptables -A INPUT -j ACEPT\npacket INPUT ct=NEW ct=NEW\n"}
@@ -363,25 +354,34 @@ def json_rows(rows):
     due = [file_of_json("good", loads=True), file_of_json("empty", [(None, None, EMPTY.decode().strip(), None, None, None)]),
            file_of_json("six", passed=[2], loads=True), file_of_json("d\\xff", faults, [(["limit"], MEMORY.decode())]),
            file_of_json("nothing", error="cannot read nothing: No such file or directory")]
-    rows.row("dumps as JSON", ["--json", *(os.fsencode(name) for name in files if name != "s"), "nothing"], files, of_json(due, 2, 3), 2,
-             b"check: cannot read nothing: No such file or directory\n")
+    yield Row("dumps as JSON", ["--json", *(os.fsencode(name) for name in files if name != "s"), "nothing"], files, of_json(due, 2, 3), 2,
+              b"check: cannot read nothing: No such file or directory\n")
     of_session = [(1, "F1", "unknown hook", "input", None, "INPUT"), (2, "T11", "target chain missing", "ACEPT", None, "ACCEPT"),
                   (3, "F3", "bad packet value", "ct=NEW", "ct is given twice", None)]
-    rows.row("a session as JSON", ["--json", "--session", "s"], files, of_json([file_of_json("s", of_session)], 0, 3), 1)
-    rows.row("a dump that loads as JSON", ["--json", "-"], files, of_json([file_of_json("-", loads=True)], 1, 0), 0, input=LOADS)
-    broken = dict(rows.environment, IPTSIM="/nothing")
-    rows.row("no program for JSON", ["--json", "good"], files, b"", 2,
-             b"check: cannot run /nothing: No such file or directory; IPTSIM has to name the program\n", env=broken)
-    schema_rows(rows, [json.loads(of_json(due, 2, 3)), json.loads(of_json([file_of_json("s", of_session)], 0, 3))])
+    yield Row("a session as JSON", ["--json", "--session", "s"], files, of_json([file_of_json("s", of_session)], 0, 3), 1)
+    yield Row("a dump that loads as JSON", ["--json", "-"], files, of_json([file_of_json("-", loads=True)], 1, 0), 0, input=LOADS)
+    yield Row("no program for JSON", ["--json", "good"], files, b"", 2, NO_PROGRAM, variables={"IPTSIM": "/nothing"})
 
 
-def schema_rows(rows, documents):
-    """Whether the schema allows the documents, and none that lacks a key or has another value, where a validator is there."""
-    try:
-        import jsonschema
-    except ImportError:
-        print("check: the schema is passed over, since no validator is there")
-        return
+def line_rows():
+    """All lines in one dump, and each whole file."""
+    data = b"*filter\n" + b"".join(line + b"\n" for line, _, _ in LINES) + b"COMMIT\n"
+    due = [b"d:%d: %s%s\n" % (number, text, b": " + word if word else b"") for number, (_, text, word) in enumerate(LINES, 2) if text]
+    due += [b"d: %s: %s\n" % pair for pair in ADVICE_OF_LINES]
+    yield Row("all lines", ["d"], {"d": data}, b"".join(due), 1)
+    for about, data, output in FILES:
+        yield Row(about, ["d"], {"d": data}, output, 1 if output else 0)
+
+
+@each(line_rows, long_rows, large_rows, alike_rows, six_rows, json_rows, word_rows)
+def test_check(row, command):
+    command("check").check(row)
+
+
+def test_schema():
+    """The schema allows the documents that are due, and none that lacks a key or has another value."""
+    jsonschema = pytest.importorskip("jsonschema")
+    documents = [json.loads(row.output) for row in json_rows() if row.output]
     with open(os.path.join(ROOT, "docs", "schemas", "check.json"), encoding="utf-8") as file:
         schema = json.load(file)
     jsonschema.Draft202012Validator.check_schema(schema)
@@ -390,25 +390,4 @@ def schema_rows(rows, documents):
              {**documents[0], "files": [file_of_json("d", [(0, "P3", "bad value", "x", None, None)])]},
              {**documents[0], "files": [file_of_json("d", [(1, "3", "bad value", "x", None, None)])]},
              {**documents[0], "files": [file_of_json("d", advice=[([], "x")])]}]
-    rows.compared("the schema", (0, True, False), (0, all(map(validator.is_valid, documents)), any(map(validator.is_valid, wrong))))
-
-
-def main(program):
-    rows = Rows("check", program)
-    data = b"*filter\n" + b"".join(line + b"\n" for line, _, _ in LINES) + b"COMMIT\n"
-    due = [b"d:%d: %s%s\n" % (number, text, b": " + word if word else b"") for number, (_, text, word) in enumerate(LINES, 2) if text]
-    due += [b"d: %s: %s\n" % pair for pair in ADVICE_OF_LINES]
-    rows.row("all lines", ["d"], {"d": data}, b"".join(due), 1)
-    for about, data, output in FILES:
-        rows.row(about, ["d"], {"d": data}, output, 1 if output else 0)
-    long_rows(rows)
-    large_rows(rows)
-    alike_rows(rows)
-    six_rows(rows)
-    json_rows(rows)
-    word_rows(rows)
-    rows.end()
-
-
-if __name__ == "__main__":
-    main(sys.argv[1])
+    assert all(map(validator.is_valid, documents)) and not any(map(validator.is_valid, wrong))

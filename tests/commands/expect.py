@@ -1,16 +1,12 @@
-"""tests/run commands/expect PROGRAM: runs bin/expect with the program on rows of rulesets and packets, and compares what it writes and its
-status to the byte. It ends with status 1 where a run isn't as expected, and says what differs.
-"""
+"""bin/expect on rows of rulesets and packets: what it writes and its status, to the byte."""
 
 import json
 import os
-import subprocess
-import sys
-import tempfile
+
+import pytest
 
 from tests import ROOT
-from tests.shared.installed import install
-from tests.shared.rows import Rows
+from tests.shared.rows import Row, each, same
 
 RULES = [
     b"-A INPUT -i lo -j ACCEPT",
@@ -109,21 +105,21 @@ def of_packets(packets):
     return b"".join(lines) + unmatched(names)
 
 
-def packet_rows(rows):
+def packet_rows():
     """Verdicts that are due, and those that aren't."""
     data = b"".join(b"%s -> %s\n" % packet[:2] for packet in PACKETS)
-    rows.row("all packets", ["R", "E"], {"R": DUMP, "E": data}, of_packets(PACKETS), 1)
+    yield Row("all packets", ["R", "E"], {"R": DUMP, "E": data}, of_packets(PACKETS), 1)
     right = [packet for packet in PACKETS if not packet[2]]
     data = b"".join(b"%s  ->\t%s \r\n" % packet[:2] for packet in right)
-    rows.row("those that are as expected", ["R", "E"], {"R": DUMP, "E": data[:-2]}, of_packets(right), 0)
+    yield Row("those that are as expected", ["R", "E"], {"R": DUMP, "E": data[:-2]}, of_packets(right), 0)
     one = b"ok 1 - " + LOCAL + b" -> ACCEPT\n"
-    rows.row("a name with `-` without `--`", ["a b", "-E"], {"a b": DUMP, "-E": b""}, b"", 2,
-             USAGE + b"expect: error: the following arguments are required: EXPECTED\n")
-    rows.row("odd names", ["--", "a b", "-E"], {"a b": DUMP, "-E": b"\n # -> x\n\t\r\n" + LOCAL + b"   -> ACCEPT"},
-             b"1..1\n" + one + unmatched([b"INPUT 1"]), 0)
+    yield Row("a name with `-` without `--`", ["a b", "-E"], {"a b": DUMP, "-E": b""}, b"", 2,
+              USAGE + b"expect: error: the following arguments are required: EXPECTED\n")
+    yield Row("odd names", ["--", "a b", "-E"], {"a b": DUMP, "-E": b"\n # -> x\n\t\r\n" + LOCAL + b"   -> ACCEPT"},
+              b"1..1\n" + one + unmatched([b"INPUT 1"]), 0)
 
 
-def state_rows(rows):
+def state_rows():
     """Packets without `ct`: a comment where one comes to a rule on states, whether it matches or not, and none elsewhere."""
     heads = b"*filter\n:a - [0:0]\n:b - [0:0]\n"
     tcp, udp = b"-A INPUT -p tcp -j a\n", b"-A INPUT -p udp -g a\n"
@@ -149,24 +145,21 @@ def state_rows(rows):
         ("passes the end of two chains", b"-A INPUT -j a\n-A a -j b\n" + new, outside, b"ACCEPT by policy", b"a 2"),
     ]
     for about, rules, line, due, rule in table:
-        ended = rows.run(["R", "E"], {"R": heads + rules + b"COMMIT\n", "E": line + b" -> " + due + b"\n"})
-        comments = [line for line in ended.stdout.splitlines(keepends=True) if not line.startswith(b"# no packet matched")]
-        came = (ended.returncode, b"".join(comments), ended.stderr)
         output = b"1..1\nok 1 - %s -> %s\n" % (line, due) + (INVALID % (1, rule) if rule else b"")
-        rows.compared("a packet " + about, (0, output, b""), came)
+        yield Row("a packet " + about, ["-q", "R", "E"], {"R": heads + rules + b"COMMIT\n", "E": line + b" -> " + due + b"\n"}, output, 0)
     twice = LOCAL + b" -> ACCEPT\n" + NAME + b" -> ACCEPT by b 1\n" + NAME + b" -> ACCEPT\n"
     due = b"1..3\nok 1 - %s -> ACCEPT\nok 2 - %s -> ACCEPT by b 1\nok 3 - %s -> ACCEPT\n" % (LOCAL, NAME, NAME)
-    rows.row("two packets without a state: one comment", ["R", "E"], {"R": DUMP, "E": twice},
-             due + unmatched([b"INPUT 1", b"INPUT 4", b"b 1"]) + INVALID % (2, b"INPUT 2"), 0)
+    yield Row("two packets without a state: one comment", ["R", "E"], {"R": DUMP, "E": twice},
+              due + unmatched([b"INPUT 1", b"INPUT 4", b"b 1"]) + INVALID % (2, b"INPUT 2"), 0)
 
 
-def unreadable_rows(rows):
+def unreadable_rows():
     """Files that can't be used: a message for each line, and the first after `Bail out!`."""
     for table in (UNREADABLE, REFUSED):
         complaints = [b"E:%d: %s" % (number, why) for number, (_, why) in enumerate(table, 2)]
         data = LOCAL + b" -> ACCEPT\n" + b"\n".join(line for line, _ in table)
-        rows.row("lines that can't be read", ["R", "E"], {"R": DUMP, "E": data}, b"Bail out!  " + complaints[0] + b"\n", 1,
-                 b"".join(b"expect: " + complaint + b"\n" for complaint in complaints))
+        yield Row("lines that can't be read", ["R", "E"], {"R": DUMP, "E": data}, b"Bail out!  " + complaints[0] + b"\n", 1,
+                  b"".join(b"expect: " + complaint + b"\n" for complaint in complaints))
     good = {"R": DUMP, "E": LOCAL + b" -> ACCEPT\n"}
     table = [
         ("no packet", {"E": b"# nothing\n"}, 1, b"E: has no packet line"),
@@ -179,32 +172,30 @@ def unreadable_rows(rows):
         ("a section that is skipped", {"R": b"*nat\n" + DUMP}, 1, NO_FILTER),
     ]
     for about, files, status, why in table:
-        rows.row(about, ["R", "E"], {**good, **files}, b"Bail out!  " + why + b"\n", status, b"expect: " + why + b"\n")
+        yield Row(about, ["R", "E"], {**good, **files}, b"Bail out!  " + why + b"\n", status, b"expect: " + why + b"\n")
     why = b"cannot read nothing: No such file or directory"
-    rows.row("no ruleset", ["nothing", "E"], good, b"Bail out!  " + why + b"\n", 2, b"expect: " + why + b"\n")
-    rows.row("no packets", ["R", "nothing"], good, b"Bail out!  " + why + b"\n", 2, b"expect: " + why + b"\n")
+    yield Row("no ruleset", ["nothing", "E"], good, b"Bail out!  " + why + b"\n", 2, b"expect: " + why + b"\n")
+    yield Row("no packets", ["R", "nothing"], good, b"Bail out!  " + why + b"\n", 2, b"expect: " + why + b"\n")
     why = b"cannot run /nothing: No such file or directory; IPTSIM has to name the program"
-    missing = dict(rows.environment, IPTSIM="/nothing")
-    rows.row("no program", ["R", "E"], good, b"Bail out!  " + why + b"\n", 2, b"expect: " + why + b"\n", env=missing)
+    yield Row("no program", ["R", "E"], good, b"Bail out!  " + why + b"\n", 2, b"expect: " + why + b"\n", variables={"IPTSIM": "/nothing"})
     why = b"the program ended before the end of its input"
-    rows.row("a program that ends at once", ["R", "E"], good, b"Bail out!  " + why + b"\n", 2, b"expect: " + why + b"\n",
-             env=dict(rows.environment, IPTSIM="/bin/false"))
-    with open("/dev/full", "wb") as full:
-        rows.row("a full device", ["R", "E"], good, b"", 2, b"expect: output failed\n", stdout=full)
+    yield Row("a program that ends at once", ["R", "E"], good, b"Bail out!  " + why + b"\n", 2, b"expect: " + why + b"\n",
+              variables={"IPTSIM": "/bin/false"})
+    yield Row("a full device", ["R", "E"], good, b"", 2, b"expect: output failed\n", stdout="/dev/full")
 
 
-def long_walk(rows):
+def test_long_walk(command):
     """More than 65,536 rules match: 1 rule of INPUT, 2 + 4 + .. + 32,768 of the chains, and 2 of INPUT."""
     chains = [b":c%d -" % number for number in range(16)]
     rules = [b"-A c%d -j c%d" % (number, number + 1) for number in range(15)] * 2
     dump = b"\n".join([b"*filter", *chains, b"-A INPUT -j c0", b"-A INPUT", b"-A INPUT -j ACCEPT", *rules, b"COMMIT", b""])
-    ended = rows.run(["R", "E"], {"R": dump, "E": LOCAL + b" -> DROP\n"})
+    ended = command("expect").run(["R", "E"], {"R": dump, "E": LOCAL + b" -> DROP\n"})
     due = b"1..1\nnot ok 1 - %s -> DROP\n# line 1 of E\n# expected: DROP\n# got: TOOLONG\n" % LOCAL
     due += b"# matched: more than 65536 rules, which are not listed\n"
-    rows.compared("a long walk", (1, due, b""), (ended.returncode, ended.stdout[:len(due)], ended.stderr))
+    same((1, due, b""), (ended.returncode, ended.stdout[:len(due)], ended.stderr))
 
 
-def shown_rows(rows):
+def shown_rows():
     """Packet lines of which nothing is due, and what --quiet leaves out."""
     arrow = LOCAL.replace(b"=lo", b"=a->b")
     lines = [LOCAL, b"\t" + PAST + b" \r", OTHER + b" -> DROP by policy", arrow]
@@ -213,33 +204,33 @@ def shown_rows(rows):
     due += b"ok 3 - " + OTHER + b" -> DROP by policy\nok 4 - " + arrow + SKIPPED
     due += b"\n# line 4 of E\n# got: DROP by policy\n# matched: INPUT 5: " + RULES[4] + b"\n"
     files, note = {"R": DUMP, "E": b"\n".join(lines)}, INVALID % (4, b"INPUT 2")
-    rows.row("packets that are shown", ["R", "E"], files, due + unmatched([b"INPUT 1", b"INPUT 4", b"INPUT 5"]) + note, 0)
+    yield Row("packets that are shown", ["R", "E"], files, due + unmatched([b"INPUT 1", b"INPUT 4", b"INPUT 5"]) + note, 0)
     for word in ("-q", "--quiet"):
-        rows.row(word, ["R", word, "E"], files, due + note, 0)
+        yield Row(word, ["R", word, "E"], files, due + note, 0)
     wrong = {**files, "E": LOCAL + b"\n" + LOCAL + b" -> DROP\n"}
     due = due[:due.index(b"ok 2")].replace(b"1..4", b"1..2") + b"not ok 2 - " + LOCAL + b" -> DROP\n# line 2 of E\n# expected: DROP\n"
-    rows.row("one that is shown, and one that is wrong", ["-q", "R", "E"], wrong,
-             due + b"# got: ACCEPT by INPUT 1\n# matched: INPUT 1: " + RULES[0] + b"\n", 1)
+    yield Row("one that is shown, and one that is wrong", ["-q", "R", "E"], wrong,
+              due + b"# got: ACCEPT by INPUT 1\n# matched: INPUT 1: " + RULES[0] + b"\n", 1)
 
 
-def odd_chains(rows):
+def odd_chains():
     """Chains whose names look like other words of a reply."""
     dump = b"*filter\n:5 -\n:verdict -\n:line -\n-A INPUT -j 5\n-A 5 -j verdict\n-A verdict -j line\n-A line -j DROP\nCOMMIT\n"
     due = b"1..1\nok 1 - " + LOCAL + SKIPPED + b"\n# line 1 of E\n# got: DROP by line 1\n# matched: INPUT 1: -A INPUT -j 5\n"
     due += b"# matched: 5 1: -A 5 -j verdict\n# matched: verdict 1: -A verdict -j line\n# matched: line 1: -A line -j DROP\n"
-    rows.row("odd names of chains", ["R", "E"], {"R": dump, "E": LOCAL}, due, 0)
+    yield Row("odd names of chains", ["R", "E"], {"R": dump, "E": LOCAL}, due, 0)
 
 
-def standard_input_rows(rows):
+def standard_input_rows():
     """`-` in place of a name."""
     one = b"1..1\nok 1 - " + LOCAL + b" -> ACCEPT\n" + unmatched([b"INPUT 1"])
     data = LOCAL + b" -> ACCEPT\n"
-    rows.row("the ruleset from standard input", ["-", "E"], {"E": data}, one, 0, input=DUMP)
-    rows.row("the packets from standard input", ["R", "-"], {"R": DUMP}, one, 0, input=data)
-    rows.row("a line of standard input", ["R", "-"], {"R": DUMP}, b"Bail out!  -:2: it is neither a packet line nor a comment\n", 1,
-             b"expect: -:2: it is neither a packet line nor a comment\n", input=b"\niptables -F")
-    rows.row("both from standard input", ["-", "-"], {}, b"", 2,
-             USAGE + b"expect: error: RULES and EXPECTED can't both be standard input\n", input=DUMP)
+    yield Row("the ruleset from standard input", ["-", "E"], {"E": data}, one, 0, input=DUMP)
+    yield Row("the packets from standard input", ["R", "-"], {"R": DUMP}, one, 0, input=data)
+    yield Row("a line of standard input", ["R", "-"], {"R": DUMP}, b"Bail out!  -:2: it is neither a packet line nor a comment\n", 1,
+              b"expect: -:2: it is neither a packet line nor a comment\n", input=b"\niptables -F")
+    yield Row("both from standard input", ["-", "-"], {}, b"", 2,
+              USAGE + b"expect: error: RULES and EXPECTED can't both be standard input\n", input=DUMP)
 
 
 def rule_object(name):
@@ -257,7 +248,7 @@ def packet_object(line, result, packet, walk, verdict, **more):
             "walk": [{**rule_object(name), "matched": True} for name in walk], "verdict": verdict, **more}
 
 
-def json_rows(rows):
+def json_rows():
     """Documents, to the byte; and that they come with the same statuses."""
     lines = [LOCAL + b" -> ACCEPT by INPUT 1", LOGIN + b" -> REJECT tcp-reset by rule", b"# RETURNED", RETURNED + b" -> DROP", NAME]
     packets = [
@@ -273,22 +264,22 @@ def json_rows(rows):
     document = {"rules": "R", "expected": "E", "passed": True, "packets": packets,
                 "unmatched": [rule_object(name) for name in NAMES if name not in matched]}
     files = {"R": DUMP, "E": b"\n".join(lines)}
-    rows.row("a document", ["--json", "R", "E"], files, written(document), 0)
+    yield Row("a document", ["--json", "R", "E"], files, written(document), 0)
     del document["unmatched"]
-    rows.row("a document without the rules that no packet matched", ["--json", "--quiet", "R", "E"], files, written(document), 0)
+    yield Row("a document without the rules that no packet matched", ["--json", "--quiet", "R", "E"], files, written(document), 0)
     failed = packet_object(1, "failed", LOCAL, [b"INPUT 1"], packets[0]["verdict"], due={"name": "DROP", "by": "policy"})
-    rows.row("a document of a packet that is wrong", ["-q", "--json", "R", "E"], {**files, "E": LOCAL + b" -> DROP by policy"},
-             written({"rules": "R", "expected": "E", "passed": False, "packets": [failed]}), 1)
+    yield Row("a document of a packet that is wrong", ["-q", "--json", "R", "E"], {**files, "E": LOCAL + b" -> DROP by policy"},
+              written({"rules": "R", "expected": "E", "passed": False, "packets": [failed]}), 1)
     wrong = [{"message": "E:1: it is neither a packet line nor a comment", "file": "E", "line": 1},
              {"message": "E:2: a blank is missing after `->`", "file": "E", "line": 2}]
-    rows.row("a document of faults", ["--json", "R", "E"], {**files, "E": b"x\npacket ->x"}, written({"errors": wrong}), 1,
-             b"".join(b"expect: %s\n" % each["message"].encode() for each in wrong))
+    yield Row("a document of faults", ["--json", "R", "E"], {**files, "E": b"x\npacket ->x"}, written({"errors": wrong}), 1,
+              b"".join(b"expect: %s\n" % each["message"].encode() for each in wrong))
     missing = "cannot read nothing: No such file or directory"
-    rows.row("a document of trouble", ["--json", "nothing", "E"], files, written({"errors": [{"message": missing}]}), 2,
-             b"expect: " + missing.encode() + b"\n")
+    yield Row("a document of trouble", ["--json", "nothing", "E"], files, written({"errors": [{"message": missing}]}), 2,
+              b"expect: " + missing.encode() + b"\n")
     loads_not = "R doesn't load: line 2: P7 unknown match"
-    rows.row("a document of a ruleset that doesn't load", ["--json", "R", "E"], {**files, "R": b"*filter\n-A INPUT -m x"},
-             written({"errors": [{"message": loads_not, "file": "R", "line": 2}]}), 1, b"expect: " + loads_not.encode() + b"\n")
+    yield Row("a document of a ruleset that doesn't load", ["--json", "R", "E"], {**files, "R": b"*filter\n-A INPUT -m x"},
+              written({"errors": [{"message": loads_not, "file": "R", "line": 2}]}), 1, b"expect: " + loads_not.encode() + b"\n")
 
 
 def written(document):
@@ -326,80 +317,72 @@ JUNIT_ERROR = """<?xml version='1.0' encoding='utf-8'?>
 """
 
 
-def junit_rows(rows):
-    """JUnit XML beside TAP or JSON, to the byte."""
+def junit_rows():
+    """What stands in JUnit XML, beside TAP or JSON."""
     good, empty = {"R": JUNIT_DUMP, "E": JUNIT_PACKETS}, b"  <system-out>"
     quiet = JUNIT[:JUNIT.index(empty)].rstrip() + JUNIT[JUNIT.index(b"</system-out>") + len(b"</system-out>"):]
     two = JUNIT_ERROR.format(first="E:1: it is neither a packet line nor a comment",
                              all="E:1: it is neither a packet line nor a comment\nE:2: a blank is missing after `-&gt;`")
     trouble = "cannot read nothing: No such file or directory"
-    table = [
-        ("a report", ["R", "E"], good, JUNIT, 1),
-        ("a report without the rules that no packet matched", ["-q", "R", "E"], good, quiet, 1),
-        ("a report beside a document", ["--json", "R", "E"], good, JUNIT, 1),
-        ("a report of faults", ["R", "E"], {**good, "E": b"x\npacket ->x"}, two.encode(), 1),
-        ("a report of trouble", ["nothing", "E"], good, JUNIT_ERROR.format(first=trouble, all=trouble).encode(), 2),
-    ]
-    for about, words, files, due, status in table:
-        with tempfile.TemporaryDirectory() as folder:
-            path = os.path.join(folder, "report.xml")
-            plain = rows.run(words, files)
-            ended = rows.run(["--junit", path, *words], files)
-            with open(path, "rb") as file:
-                rows.compared(about, (status, due, plain.stdout, plain.stderr), (ended.returncode, file.read(), ended.stdout, ended.stderr))
-    rows.row("a report that can't be written", ["-q", "--junit", "nothing/x", "R", "E"], {"R": DUMP, "E": LOCAL + b" -> ACCEPT"},
-             b"1..1\nok 1 - " + LOCAL + b" -> ACCEPT\n", 2, b"expect: cannot write nothing/x: No such file or directory\n")
+    yield Row("a report", ["R", "E"], good, JUNIT, 1)
+    yield Row("a report without the rules that no packet matched", ["-q", "R", "E"], good, quiet, 1)
+    yield Row("a report beside a document", ["--json", "R", "E"], good, JUNIT, 1)
+    yield Row("a report of faults", ["R", "E"], {**good, "E": b"x\npacket ->x"}, two.encode(), 1)
+    yield Row("a report of trouble", ["nothing", "E"], good, JUNIT_ERROR.format(first=trouble, all=trouble).encode(), 2)
 
 
-def example_rows(rows):
-    """The packets of the example: all but the ninth get what is due, and after the edits all do. They are those of office.packets. And
-    those of the sample, which all get what is due."""
-    office = os.path.join(ROOT, "examples", "office.")
-    with open(office + "packets", "rb") as file:
-        packets = [line.rstrip() for line in file if line.startswith(b"packet")]
-    with open(office + "edits", "rb") as file:
-        edits = file.read() + b"iptables-save\n"
-    program = [rows.environment["IPTSIM"], "session", "--load", office + "rules"]
-    edited = subprocess.run(program, input=edits, stdout=subprocess.PIPE, check=True).stdout
-    for about, rules, wrong in (("the example", office + "rules", 9), ("the edited example", "R", None)):
-        ended = rows.run([rules, office + "expected"], {"R": edited})
-        came = [line.rsplit(b" -> ", 1)[0] for line in ended.stdout.splitlines() if not line.startswith(b"#")]
-        due = [b"%sok %d - %s" % (b"not " if number == wrong else b"", number, packet) for number, packet in enumerate(packets, 1)]
-        rows.compared(about, (1 if wrong else 0, b"\n".join([b"1..10", *due])), (ended.returncode, b"\n".join(came)))
-    web = os.path.join(ROOT, "examples", "web.")
-    ended = rows.run(["-q", web + "rules", web + "expected"], {})
+@each(junit_rows)
+def test_report(row, command, folder):
+    """The report beside what is written without one."""
+    path = os.path.join(folder, "report.xml")
+    plain, ended = (command("expect").run([*more, *row.words], row.files) for more in ([], ["--junit", path]))
+    with open(path, "rb") as file:
+        same((row.status, row.output, plain.stdout, plain.stderr), (ended.returncode, file.read(), ended.stdout, ended.stderr))
+
+
+def report_rows():
+    yield Row("a report that can't be written", ["-q", "--junit", "nothing/x", "R", "E"], {"R": DUMP, "E": LOCAL + b" -> ACCEPT"},
+              b"1..1\nok 1 - " + LOCAL + b" -> ACCEPT\n", 2, b"expect: cannot write nothing/x: No such file or directory\n")
+
+
+@each(packet_rows, state_rows, unreadable_rows, shown_rows, odd_chains, standard_input_rows, json_rows, report_rows)
+def test_expect(row, command):
+    command("expect").check(row)
+
+
+OFFICE, WEB = (os.path.join(ROOT, "examples", name) for name in ("office.", "web."))
+
+
+@pytest.mark.parametrize("wrong", [9, None], ids=["office.rules", "office.rules, edited"])
+def test_example(wrong, command, iptsim):
+    """The packets of the example, which are those of office.packets: all but the ninth get what is due, and after the edits all do."""
+    texts = {}
+    for name in ("packets", "edits"):
+        with open(OFFICE + name, "rb") as file:
+            texts[name] = file.read()
+    edited = iptsim.said(["session", "--load", OFFICE + "rules"], texts["edits"] + b"iptables-save\n")
+    ended = command("expect").run([OFFICE + "rules" if wrong else "R", OFFICE + "expected"], {"R": edited})
+    came = [line.rsplit(b" -> ", 1)[0] for line in ended.stdout.splitlines() if not line.startswith(b"#")]
+    packets = [line.rstrip() for line in texts["packets"].splitlines() if line.startswith(b"packet")]
+    due = [b"%sok %d - %s" % (b"not " if number == wrong else b"", number, packet) for number, packet in enumerate(packets, 1)]
+    same((1 if wrong else 0, b"\n".join([b"1..10", *due])), (ended.returncode, b"\n".join(came)))
+
+
+def test_sample(command):
+    ended = command("expect").run(["-q", WEB + "rules", WEB + "expected"])
     came = [line.split(b" - ")[0] for line in ended.stdout.splitlines()]
-    rows.compared("the sample", (0, b"1..5 ok 1 ok 2 ok 3 ok 4 ok 5"), (ended.returncode, b" ".join(came)))
+    same((0, b"1..5 ok 1 ok 2 ok 3 ok 4 ok 5"), (ended.returncode, b" ".join(came)))
 
 
-def installed_rows(rows):
+def installed_rows():
     """An installed script finds its modules, and messages name it as it was called."""
-    with tempfile.TemporaryDirectory() as prefix:
-        [rows.script] = install(prefix, "expect")
-        rows.row("a test, installed", ["-q", "R", "E"], {"R": DUMP, "E": LOCAL + b" -> ACCEPT"},
-                 b"1..1\nok 1 - " + LOCAL + b" -> ACCEPT\n", 0)
-        rows.row("wrong words, installed", ["nothing"], {}, b"", 2, b"usage: iptsim-" + USAGE[len("usage: "):] +
-                 b"iptsim-expect: error: the following arguments are required: EXPECTED\n")
-        why = b"R has no section *filter that iptsim reads: iptsim-check says why"
-        rows.row("a message, installed", ["R", "E"], {"R": b"", "E": LOCAL}, b"Bail out!  " + why + b"\n", 1,
-                 b"iptsim-expect: " + why + b"\n")
+    yield Row("a test", ["-q", "R", "E"], {"R": DUMP, "E": LOCAL + b" -> ACCEPT"}, b"1..1\nok 1 - " + LOCAL + b" -> ACCEPT\n", 0)
+    yield Row("wrong words", ["nothing"], {}, b"", 2, b"usage: iptsim-" + USAGE[len("usage: "):] +
+              b"iptsim-expect: error: the following arguments are required: EXPECTED\n")
+    why = b"R has no section *filter that iptsim reads: iptsim-check says why"
+    yield Row("a message", ["R", "E"], {"R": b"", "E": LOCAL}, b"Bail out!  " + why + b"\n", 1, b"iptsim-expect: " + why + b"\n")
 
 
-def main(program):
-    rows = Rows("expect", program)
-    packet_rows(rows)
-    state_rows(rows)
-    unreadable_rows(rows)
-    shown_rows(rows)
-    odd_chains(rows)
-    standard_input_rows(rows)
-    json_rows(rows)
-    junit_rows(rows)
-    long_walk(rows)
-    example_rows(rows)
-    installed_rows(rows)
-    rows.end()
-
-
-if __name__ == "__main__":
-    main(sys.argv[1])
+@each(installed_rows)
+def test_installed(row, installed):
+    installed("expect").check(row)

@@ -1,14 +1,9 @@
-"""tests/run commands/explain PROGRAM: runs bin/explain with the program on rows of rulesets and packets, and compares what it writes and its
-status to the byte. It ends with status 1 where a run isn't as expected, and says what differs.
-"""
+"""bin/explain on rows of rulesets and packets: what it writes and its status, to the byte."""
 
 import json
 import os
-import sys
-import tempfile
 
-from tests.shared.installed import install
-from tests.shared.rows import Rows
+from tests.shared.rows import Row, each, script
 
 USAGE = b"usage: explain [-h] [--why-not] [--json] RULES [PACKET ...]\n"
 DUMP = b"""*filter
@@ -104,41 +99,41 @@ FAILING = {
 }
 
 
-def walk_rows(rows):
+def walk_rows():
     """Packets as words and on standard input, with all that they came to and without."""
     for packet, walk in WALKS:
         for word in (packet, b"packet  " + packet, b"\t" + packet + b" \r"):
             shown = word.strip() if word.startswith(b"packet") else b"packet " + packet
-            rows.row("why not", ["R", "--why-not", os.fsdecode(word)], {"R": DUMP}, shown + b"\n" + walk, 0)
+            yield Row("why not", ["R", "--why-not", os.fsdecode(word)], {"R": DUMP}, shown + b"\n" + walk, 0)
     matched = [b"packet %s\n%s" % (packet, of_matches(walk)) for packet, walk in WALKS]
     apart = ["R", os.fsdecode(WALKS[0][0]), "--why-not", *(os.fsdecode(packet) for packet, _ in WALKS[1:])]
-    rows.row("words before and after an option", apart, {"R": DUMP}, b"\n".join(b"packet %s\n%s" % pair for pair in WALKS), 0)
-    rows.row("words after `--`", ["R", "--why-not", "--", os.fsdecode(GRE)], {"R": DUMP}, b"packet %s\n%s" % WALKS[1], 0)
-    rows.row("several words", ["R", *(os.fsdecode(packet) for packet, _ in WALKS)], {"R": DUMP}, b"\n".join(matched), 0)
+    yield Row("words before and after an option", apart, {"R": DUMP}, b"\n".join(b"packet %s\n%s" % pair for pair in WALKS), 0)
+    yield Row("words after `--`", ["R", "--why-not", "--", os.fsdecode(GRE)], {"R": DUMP}, b"packet %s\n%s" % WALKS[1], 0)
+    yield Row("several words", ["R", *(os.fsdecode(packet) for packet, _ in WALKS)], {"R": DUMP}, b"\n".join(matched), 0)
     lines = b"# All\n\n" + b"\r\n".join(packet for packet, _ in WALKS)
-    rows.row("lines of standard input", ["R"], {"R": DUMP}, b"\n".join(matched), 0, input=lines)
-    rows.row("words, and standard input that is left alone", ["--", "-R", os.fsdecode(LOCAL)], {"-R": DUMP}, matched[0], 0, input=b"x")
-    rows.row("the ruleset on standard input", ["-", os.fsdecode(LOCAL)], {}, matched[0], 0, input=DUMP)
+    yield Row("lines of standard input", ["R"], {"R": DUMP}, b"\n".join(matched), 0, input=lines)
+    yield Row("words, and standard input that is left alone", ["--", "-R", os.fsdecode(LOCAL)], {"-R": DUMP}, matched[0], 0, input=b"x")
+    yield Row("the ruleset on standard input", ["-", os.fsdecode(LOCAL)], {}, matched[0], 0, input=DUMP)
     both = os.fsdecode(LOCAL + b"\n\n#\n" + GRE)
-    rows.row("two lines in one word", ["R", both], {"R": DUMP}, b"\n".join(matched[:2]), 0)
+    yield Row("two lines in one word", ["R", both], {"R": DUMP}, b"\n".join(matched[:2]), 0)
 
 
 def of_matches(walk):
     return b"".join(line for line in walk.splitlines(keepends=True) if not line.startswith(b"    "))
 
 
-def failing_rows(rows):
+def failing_rows():
     """Each condition that a rule can have, and the one of several that is named."""
     for packet, table in FAILING.items():
         dump = b"*filter\n" + b"".join(b"-A FORWARD %s -j DROP\n" % rule for rule, _ in table) + b"COMMIT\n"
         due = b"".join(b"    not FORWARD %d: %s\n" % (number, why) for number, (_, why) in enumerate(table, 1))
         on_states = [number for number, (rule, _) in enumerate(table, 1) if b"state" in rule]
         note = b"" if b"ct=" in packet or not on_states else NOTE % b"FORWARD %d" % on_states[0]
-        rows.row("conditions", ["--why-not", "R", os.fsdecode(packet)], {"R": dump},
-                 b"packet " + packet + b"\n" + due + b"  verdict ACCEPT by policy\n" + note, 0)
+        yield Row("conditions", ["--why-not", "R", os.fsdecode(packet)], {"R": dump},
+                  b"packet " + packet + b"\n" + due + b"  verdict ACCEPT by policy\n" + note, 0)
 
 
-def reached_rows(rows):
+def reached_rows():
     """Rules that a packet doesn't come to aren't named."""
     heads, other = b"*filter\n:a -\n:b -\n", b"-A %s -p 9 -j DROP\n"
     table = [
@@ -157,61 +152,67 @@ def reached_rows(rows):
          b"    not INPUT 2: -p 9: proto is gre\n", b"ACCEPT by policy"),
     ]
     for about, rules, due, verdict in table:
-        rows.row(about, ["--why-not", "R", os.fsdecode(GRE)], {"R": heads + rules + b"COMMIT\n"},
-                 b"packet " + GRE + b"\n" + due + b"  verdict " + verdict + b"\n", 0)
+        yield Row(about, ["--why-not", "R", os.fsdecode(GRE)], {"R": heads + rules + b"COMMIT\n"},
+                  b"packet " + GRE + b"\n" + due + b"  verdict " + verdict + b"\n", 0)
 
 
-def refused_rows(rows):
+def refused_rows():
     """Inputs that can't be used: nothing is explained."""
     words = [os.fsdecode(LOCAL), "INPUT", "packet INPUT src=1", "iptables -F", "\"", os.fsdecode(LOCAL + b" dport=1")]
     whys = [b"packet 2: F2 key missing: src, dst, proto", b"packet 3: F3 bad packet value: src=1", b"packet 4: F1 unknown hook: iptables",
             b"packet 5: R5 bad quoting: \"", b"packet 6: F4 field not carried: dport"]
     good, local = {"R": DUMP}, os.fsdecode(LOCAL)
-    rows.row("words that are refused", ["R", *words], good, b"", 1, messages(whys))
+    yield Row("words that are refused", ["R", *words], good, b"", 1, messages(whys))
     by_line = [b"line 3: F2 key missing: src, dst, proto", b"line 4: F1 hook missing: INPUT, FORWARD or OUTPUT"]
-    rows.row("lines that are refused", ["R"], good, b"", 1, messages(by_line), input=LOCAL + b"\n\nINPUT\npacket\n")
-    rows.row("no packet on standard input", ["R"], good, b"", 1, messages([b"there is no packet line"]), input=b"\n# none\n")
-    rows.row("no packet in a word", ["R", ""], good, b"", 1, messages([b"there is no packet line"]))
+    yield Row("lines that are refused", ["R"], good, b"", 1, messages(by_line), input=LOCAL + b"\n\nINPUT\npacket\n")
+    yield Row("no packet on standard input", ["R"], good, b"", 1, messages([b"there is no packet line"]), input=b"\n# none\n")
+    yield Row("no packet in a word", ["R", ""], good, b"", 1, messages([b"there is no packet line"]))
     table = [
         ("a refused rule", {"R": b"*filter\n\n-A INPUT -m limit\nCOMMIT\n"}, 1, b"R doesn't load: line 3: P7 unknown match"),
         ("no section", {"R": b"*nat\nCOMMIT\n"}, 1, b"R has no section *filter that iptsim reads: bin/check says why"),
         ("no ruleset", {}, 2, b"cannot read R: No such file or directory"),
     ]
     for about, files, status, why in table:
-        rows.row(about, ["R", local], files, b"", status, messages([why]))
-    rows.row("both on standard input", ["-"], {}, b"", 2,
-             USAGE + b"explain: error: RULES can't be standard input where the packets are\n", input=DUMP)
-    rows.row("no words", [], {}, b"", 2, USAGE + b"explain: error: the following arguments are required: RULES\n")
-    rows.row("a short form of an option", ["--why", "R", local], good, b"", 2,
-             USAGE + b"explain: error: unrecognized arguments: --why\n")
-    with open("/dev/full", "wb") as full:
-        rows.row("a full device", ["R", local], good, b"", 2, messages([b"output failed"]), stdout=full)
+        yield Row(about, ["R", local], files, b"", status, messages([why]))
+    yield Row("both on standard input", ["-"], {}, b"", 2,
+              USAGE + b"explain: error: RULES can't be standard input where the packets are\n", input=DUMP)
+    yield Row("no words", [], {}, b"", 2, USAGE + b"explain: error: the following arguments are required: RULES\n")
+    yield Row("a short form of an option", ["--why", "R", local], good, b"", 2,
+              USAGE + b"explain: error: unrecognized arguments: --why\n")
+    yield Row("a full device", ["R", local], good, b"", 2, messages([b"output failed"]), stdout="/dev/full")
 
 
 def messages(whys):
     return b"".join(b"explain: " + why + b"\n" for why in whys)
 
 
-def program_rows(rows):
+OTHER_PROGRAM = r"""#!/bin/sh
+echo '-P INPUT ACCEPT
+-A INPUT -p tcp -j DROP
+INPUT 1
+verdict DROP by rule'
+echo "line $(wc -l): S1 unknown line"
+"""
+
+
+def program_rows():
     """A program that can't be run, and one that answers otherwise than the model."""
-    with tempfile.TemporaryDirectory() as folder:
-        path = os.path.join(folder, "program")
-        with open(path, "w", encoding="utf-8") as file:
-            file.write("#!/bin/sh\necho '-P INPUT ACCEPT\n-A INPUT -p tcp -j DROP\nINPUT 1\nverdict DROP by rule'\n"
-                       "echo \"line $(wc -l): S1 unknown line\"\n")
-        os.chmod(path, 0o755)
-        table = [
-            ("no program", ["R"], "/nothing", b"", b"cannot run /nothing: No such file or directory; IPTSIM has to name the program"),
-            ("another answer", ["R"], path, b"packet " + GRE + b"\n  INPUT 1: -A INPUT -p tcp -j DROP\n  verdict DROP by rule\n", b""),
-            ("another answer than the model's", ["R", "--why-not"], path, b"",
-             b"the program and the plain model differ on whether INPUT 1 matches"),
-        ]
-        for about, words, program, output, why in table:
-            rows.row(about, [*words, os.fsdecode(GRE)], {"R": DUMP}, output, 2 if why else 0, messages([why] if why else []),
-                     env=dict(rows.environment, IPTSIM=program))
+    table = [
+        ("no program", ["R"], "/nothing", b"", b"cannot run /nothing: No such file or directory; IPTSIM has to name the program"),
+        ("another answer", ["R"], None, b"packet " + GRE + b"\n  INPUT 1: -A INPUT -p tcp -j DROP\n  verdict DROP by rule\n", b""),
+        ("another answer than the model's", ["R", "--why-not"], None, b"", b"the program and the plain model differ on whether INPUT 1 matches"),
+    ]
+    for about, words, program, output, why in table:
+        yield Row(about, [*words, os.fsdecode(GRE)], {"R": DUMP}, output, 2 if why else 0, messages([why] if why else []), variables={"IPTSIM": program})
 
 
-def json_rows(rows):
+@each(program_rows)
+def test_other_program(row, command, folder):
+    program = row.variables["IPTSIM"] or script(os.path.join(folder, "program"), OTHER_PROGRAM)
+    command("explain").check(row._replace(variables={"IPTSIM": program}))
+
+
+def json_rows():
     """Documents, to the byte."""
     first = {"chain": "INPUT", "number": 1, "rule": "-A INPUT -i lo -j ACCEPT"}
     third, rest = {"chain": "INPUT", "number": 3, "rule": "-A INPUT -p udp -g b"}, {"chain": "b", "number": 1}
@@ -219,8 +220,8 @@ def json_rows(rows):
              "verdict": {"name": "ACCEPT", "by": {"chain": "INPUT", "number": 1}}}
     name = {"line": 3, "packet": "packet " + NAME.decode(), "walk": [{**third, "matched": True}],
             "verdict": {"name": "DROP", "by": "policy"}, "invalid_at": rest}
-    rows.row("a document", ["--json", "R"], {"R": DUMP}, written({"rules": "R", "packets": [local, name]}), 0,
-             input=b"#\n" + LOCAL + b"\n" + NAME)
+    yield Row("a document", ["--json", "R"], {"R": DUMP}, written({"rules": "R", "packets": [local, name]}), 0,
+              input=b"#\n" + LOCAL + b"\n" + NAME)
     failed = [
         {**first, "matched": False, "failed": {"listed": "-i lo", "condition": "-i lo", "packet": {"in": "eth0"}}},
         {"chain": "INPUT", "number": 2, "rule": "-A INPUT -p tcp -m comment --comment \"a b\" -j a", "matched": False,
@@ -230,50 +231,41 @@ def json_rows(rows):
          "failed": {"listed": "-m state --state NEW", "condition": "--state NEW", "packet": {"ct": "INVALID"}}},
     ]
     document = {"rules": "R", "packets": [{**name, "line": 1, "walk": failed}]}
-    rows.row("a document of why not", ["--json", "--why-not", "R", os.fsdecode(NAME)], {"R": DUMP}, written(document), 0)
+    yield Row("a document of why not", ["--json", "--why-not", "R", os.fsdecode(NAME)], {"R": DUMP}, written(document), 0)
     errors = [{"message": "packet 1: F1 unknown hook: x", "line": 1},
               {"message": "packet 2: F2 key missing: src, dst, proto", "line": 2}]
-    rows.row("a document of faults", ["--json", "R", "x", "INPUT"], {"R": DUMP}, written({"errors": errors}), 1,
-             messages([each["message"].encode() for each in errors]))
+    yield Row("a document of faults", ["--json", "R", "x", "INPUT"], {"R": DUMP}, written({"errors": errors}), 1,
+              messages([each["message"].encode() for each in errors]))
     why = "cannot read nothing: No such file or directory"
-    rows.row("a document of trouble", ["--json", "nothing", os.fsdecode(LOCAL)], {}, written({"errors": [{"message": why}]}), 2,
-             messages([why.encode()]))
+    yield Row("a document of trouble", ["--json", "nothing", os.fsdecode(LOCAL)], {}, written({"errors": [{"message": why}]}), 2,
+              messages([why.encode()]))
 
 
 def written(document):
     return json.dumps(document, indent=2).encode() + b"\n"
 
 
-def long_walk(rows):
+def long_rows():
     """More than 65,536 rules match: 1 rule of INPUT, 2 + 4 + .. + 32,768 of the chains, and 2 of INPUT. The program names none."""
     chains = [b":c%d -" % number for number in range(16)]
     rules = [b"-A c%d -j c%d" % (number, number + 1) for number in range(15)] * 2
     dump = b"\n".join([b"*filter", *chains, b"-A INPUT -j c0", b"-A INPUT", b"-A INPUT -j ACCEPT", *rules, b"COMMIT", b""])
     due = b"packet " + LOCAL + b"\n  matches more than 65536 rules, which are not listed\n  verdict TOOLONG\n"
-    rows.row("a long walk", ["--why-not", "R", os.fsdecode(LOCAL)], {"R": dump}, due, 0)
+    yield Row("a long walk", ["--why-not", "R", os.fsdecode(LOCAL)], {"R": dump}, due, 0)
 
 
-def installed_row(rows):
+@each(walk_rows, failing_rows, reached_rows, refused_rows, json_rows, long_rows)
+def test_explain(row, command):
+    command("explain").check(row)
+
+
+def installed_rows():
     """An installed script finds its modules, and messages name it as it was called."""
-    with tempfile.TemporaryDirectory() as prefix:
-        [rows.script] = install(prefix, "explain")
-        rows.row("why not, installed", ["--why-not", "R", os.fsdecode(GRE)], {"R": DUMP}, b"packet %s\n%s" % WALKS[1], 0)
-        rows.row("a message, installed", ["R", os.fsdecode(LOCAL)], {"R": b""}, b"", 1,
-                 b"iptsim-explain: R has no section *filter that iptsim reads: iptsim-check says why\n")
+    yield Row("why not", ["--why-not", "R", os.fsdecode(GRE)], {"R": DUMP}, b"packet %s\n%s" % WALKS[1], 0)
+    yield Row("a message", ["R", os.fsdecode(LOCAL)], {"R": b""}, b"", 1,
+              b"iptsim-explain: R has no section *filter that iptsim reads: iptsim-check says why\n")
 
 
-def main(program):
-    rows = Rows("explain", program)
-    walk_rows(rows)
-    failing_rows(rows)
-    reached_rows(rows)
-    refused_rows(rows)
-    program_rows(rows)
-    json_rows(rows)
-    long_walk(rows)
-    installed_row(rows)
-    rows.end()
-
-
-if __name__ == "__main__":
-    main(sys.argv[1])
+@each(installed_rows)
+def test_installed(row, installed):
+    installed("explain").check(row)

@@ -1,14 +1,10 @@
-"""tests/run commands/fit PROGRAM: runs bin/fit with the program on rows of dumps, and compares what it writes and its status to the byte.
-
-It ends with status 1 where a run isn't as expected, and says what differs.
-"""
+"""bin/fit on rows of dumps: what it writes and its status, to the byte."""
 
 import os
 import signal
-import sys
 
 from tests.commands.fitted.spellings import NAMES, PROTOCOLS, SERVICES, SPELLINGS
-from tests.shared.rows import Rows
+from tests.shared.rows import UNREAD, Row, each, same
 
 HEAD = b"*nat\n-A x -m limit -j MASQUERADE\nCOMMIT\n# A comment\n*filter\n:INPUT DROP [1:60]\n:a - [0:0]\n:quiet - [0:0]\n:verdict -\n\n"
 RULES = b"-A a -j ACCEPT\n-A verdict -j DROP\n-A quiet -j LOG\n-A quiet -j RETURN\n"
@@ -32,18 +28,18 @@ def files(data):
     return {"d": data, "S": SERVICES, "P": PROTOCOLS}
 
 
-def spelling_rows(rows):
+def spelling_rows():
     """Lines that mean the same, and in another run lines that can't be made to fit, each beside all others."""
     fitted = [row for row in SPELLINGS if row[1]]
     said = [b"d:%d: %s\n" % (FIRST + at, note) for at, row in enumerate(fitted) for note in row[2]]
     written = dump(line for row in fitted for line in row[1])
-    rows.row("spellings", [*NAMES, "d"], files(dump(row[0] for row in fitted)), written, 0, b"".join(said))
+    yield Row("spellings", [*NAMES, "d"], files(dump(row[0] for row in fitted)), written, 0, b"".join(said))
     left = [row for row in SPELLINGS if not row[1]]
     said = [b"fit: d:%d: %s\n" % (FIRST + at, row[2]) for at, row in enumerate(left)]
-    rows.row("lines that can't fit", [*NAMES, "d"], files(dump(row[0] for row in left)), b"", 1, b"".join(said))
+    yield Row("lines that can't fit", [*NAMES, "d"], files(dump(row[0] for row in left)), b"", 1, b"".join(said))
     # A line of several addresses before one that is refused: it has the number that it has in the file.
     both = dump([b"-A INPUT -s 1.1.1.1,2.2.2.2", b"-A INPUT -s x"])
-    rows.row("a line after a list", ["d"], files(both), b"", 1, b"fit: d:%d: P3 bad value: x\n" % (FIRST + 1))
+    yield Row("a line after a list", ["d"], files(both), b"", 1, b"fit: d:%d: P3 bad value: x\n" % (FIRST + 1))
 
 
 # Rules that decide nothing: what is written in their place, and what is said to be taken out.
@@ -116,28 +112,28 @@ LOUD = [
 ASKED = b"'%s=true' or '%s=false'"
 
 
-def quiet_rows(rows):
+def quiet_rows():
     """What decides nothing goes, and what decides is asked for."""
     chains = [b"-N further", b"-N leads", b":further -", b":leads -"]
     lines = chains[2:] + [row[0] for row in QUIET]
     said = [b"d:%d: %s%s\n" % (FIRST + 2 + at, why, note) for at, row in enumerate(QUIET) for why, note in row[2]]
-    rows.row("rules that decide nothing", ["d"], files(dump(lines)), head([], DROPPED) + dump(chains[2:] + [row[1] for row in QUIET]), 0,
-             b"".join(said))
+    yield Row("rules that decide nothing", ["d"], files(dump(lines)), head([], DROPPED) + dump(chains[2:] + [row[1] for row in QUIET]), 0,
+              b"".join(said))
     lines = chains[2:] + [row[0] for row in LOUD]
     said = [b"fit: d:%d: state --assume %s: %s\n" % (FIRST + 2 + at, ASKED % (name, name), text) for at, (_, name, text) in enumerate(LOUD)]
-    rows.row("rules that decide", ["d"], files(dump(lines)), b"", 2, b"".join(said))
+    yield Row("rules that decide", ["d"], files(dump(lines)), b"", 2, b"".join(said))
     # Who sets what is asked; and one line for all that ask the same.
     marked = b" -m mark --mark 1 -j a"
     lines = [b"-A INPUT -j MARK --set-mark 1", b"-A INPUT" + marked, *DUE * 2, b"-A INPUT -p tcp" + marked, DUE[0]]
     said = b"fit: d:%d: state --assume %s: -m mark --mark 1, which line %d sets by -j MARK, and at another line\n"
     limit = b"fit: d:%d: state --assume 'limit=true' or 'limit=false': -m limit --limit 5/min --limit-burst 7, and at 2 more lines\n"
-    rows.row("marks", ["d"], files(dump(lines)), b"", 2, said % (FIRST + 1, ASKED % (b"mark", b"mark"), FIRST) + limit % (FIRST + 2))
+    yield Row("marks", ["d"], files(dump(lines)), b"", 2, said % (FIRST + 1, ASKED % (b"mark", b"mark"), FIRST) + limit % (FIRST + 2))
     # A chain that is renamed, or that the file doesn't make, may decide.
     limit = b"fit: d:%d: state --assume 'limit=true' or 'limit=false': -m limit\n"
     renamed = [b"-E quiet other", b"-E verdict quiet", b"-A INPUT -m limit -j quiet"]
-    rows.row("a renamed chain", ["d"], files(dump(renamed)), b"", 2, limit % (FIRST + 2))
+    yield Row("a renamed chain", ["d"], files(dump(renamed)), b"", 2, limit % (FIRST + 2))
     missing = b"fit: d:%d: T11 target chain missing: nowhere\n" % FIRST
-    rows.row("a missing chain", ["d"], files(dump([b"-A INPUT -m limit -j nowhere"])), b"", 1, missing + limit % FIRST)
+    yield Row("a missing chain", ["d"], files(dump([b"-A INPUT -m limit -j nowhere"])), b"", 1, missing + limit % FIRST)
 
 
 LIMIT, BURST = b"-m limit --limit 5/min", b"-m limit --limit 9/min --limit-burst 2"
@@ -232,7 +228,7 @@ UNUSABLE = [
 ]
 
 
-def assumption_rows(rows):
+def assumption_rows():
     """Assumptions that are stated: of all chains, true and false, inverted, finer ones, and those that can't be used."""
     for place, (stated, rule, written, said, unneeded) in enumerate(ASSUMED):
         chain = (b"INPUT", b"FORWARD", b"OUTPUT", b"verdict")[place % 4]
@@ -244,123 +240,117 @@ def assumption_rows(rows):
         data = dump([b"-A %s %s" % (chain, rule)])
         used = [each.encode() for each in stated if each not in unneeded]
         first = head(used, [] if used else [b"-m limit"])
-        rows.row(f"{stated} on {rule.decode()}", [*NAMES, *words, "d"], files(data), first + dump(written), 0, said)
+        yield Row(f"{stated} on {rule.decode()}", [*NAMES, *words, "d"], files(data), first + dump(written), 0, said)
     missing = b"fit: d:%d: state --assume 'TARPIT=ACCEPT', 'TARPIT=DROP' or 'TARPIT=RETURN': -j TARPIT --reset\n" % FIRST
-    rows.row("a target without an assumption", ["d"], files(dump([b"-A INPUT -j TARPIT --reset"])), b"", 2, missing)
+    yield Row("a target without an assumption", ["d"], files(dump([b"-A INPUT -j TARPIT --reset"])), b"", 2, missing)
     half = b"fit: d:%d: state --assume 'owner=true' or 'owner=false': -m owner --uid-owner 0\n" % FIRST
-    rows.row("half of them", ["--assume", "limit=true", "d"], files(dump([b"-A INPUT -m limit -m owner --uid-owner 0 -j a"])), b"", 2, half)
+    yield Row("half of them", ["--assume", "limit=true", "d"], files(dump([b"-A INPUT -m limit -m owner --uid-owner 0 -j a"])), b"", 2, half)
     less = b"fit: d:%d: state --assume 'ndpi --genre Linux=true' or 'ndpi --genre Linux=false': -m ndpi --genre Linux\n" % FIRST
-    rows.row("some words of a match that isn't known", ["--assume", "ndpi=true", "d"], files(dump([b"-A INPUT -m ndpi --genre Linux -j a"])),
-             b"", 2, less)
+    yield Row("some words of a match that isn't known", ["--assume", "ndpi=true", "d"], files(dump([b"-A INPUT -m ndpi --genre Linux -j a"])),
+              b"", 2, less)
     for stated, why in UNUSABLE:
-        rows.row(stated, ["--assume", stated, "d"], files(dump([])), b"", 2, f"fit: --assume '{stated}'{why}\n".encode())
+        yield Row(stated, ["--assume", stated, "d"], files(dump([])), b"", 2, f"fit: --assume '{stated}'{why}\n".encode())
     words = ["--assume", "limit --limit 5/min=true", "--assume", "limit --limit-burst 7=false", "d"]
-    rows.row("two on the same words", words, files(dump(DUE)), b"", 2,
-             b"fit: --assume 'limit --limit 5/min=true' and 'limit --limit-burst 7=false' are on the same words\n")
+    yield Row("two on the same words", words, files(dump(DUE)), b"", 2,
+              b"fit: --assume 'limit --limit 5/min=true' and 'limit --limit-burst 7=false' are on the same words\n")
 
 
-def never_rows(rows):
-    """No packet matches the rule that never does, in any chain; and the other rules keep their numbers."""
+def test_rule_that_never_matches(command, iptsim):
+    """No packet matches it, in any chain; and the other rules keep their numbers."""
     lines = [b"-A %s -m limit -j DROP" % chain for chain in (b"INPUT", b"FORWARD", b"OUTPUT")]
     lines += [b"-A %s -j ACCEPT" % chain for chain in (b"INPUT", b"FORWARD", b"OUTPUT")]
-    fitted = rows.run(["--assume", "limit=false", "d"], {"d": dump(lines)}).stdout
+    fitted = command("fit").run(["--assume", "limit=false", "d"], {"d": dump(lines)}).stdout
     packets = b"".join(b"packet %s src=%s dst=2.2.2.2 proto=47\n" % (hook, source) for hook in (b"INPUT", b"FORWARD", b"OUTPUT")
                        for source in (b"0.0.0.0", b"10.0.0.1", b"255.255.255.255"))
-    session = b"iptables-restore <<END\n" + fitted + b"END\n" + packets
-    came = rows.of_program(["session"], session)
-    due = b"".join(b"%s 2\nverdict ACCEPT by rule\n" % hook * 3 for hook in (b"INPUT", b"FORWARD", b"OUTPUT"))
-    rows.compared("packets at rules that never match", (0, due), (0, came))
+    came = iptsim.said(["session"], b"iptables-restore <<END\n" + fitted + b"END\n" + packets)
+    same((b"".join(b"%s 2\nverdict ACCEPT by rule\n" % hook * 3 for hook in (b"INPUT", b"FORWARD", b"OUTPUT")),), (came,))
 
 
-def deletion_rows(rows):
+def deletion_rows():
     """A rule that is named by its words, where rules lose some."""
     by_words = b"fit: d:%d: names a rule by its words, and other rules lost some: give its number instead\n"
     quiet = b"-A INPUT -m limit --limit 5/min -j LOG"
-    rows.row("a rule deleted by words", ["d"], files(dump([quiet, b"-D INPUT -j LOG"])), b"", 1, by_words % (FIRST + 1))
-    rows.row("the first rule without words", ["d"], files(dump([b"-A INPUT", quiet, b"-D INPUT"])), b"", 1, by_words % (FIRST + 2))
+    yield Row("a rule deleted by words", ["d"], files(dump([quiet, b"-D INPUT -j LOG"])), b"", 1, by_words % (FIRST + 1))
+    yield Row("the first rule without words", ["d"], files(dump([b"-A INPUT", quiet, b"-D INPUT"])), b"", 1, by_words % (FIRST + 2))
     checked = dump([b"-A INPUT -j ACCEPT", quiet, b"-C INPUT -j ACCEPT"])
-    rows.row("a rule checked by words", ["d"], files(checked), b"", 1, by_words % (FIRST + 2))
-    rows.row("a rule deleted that would lose words", ["d"], files(dump([b"-A INPUT -j LOG", b"-D INPUT -m limit -j LOG"])), b"", 1,
-             b"fit: d:%d: P7 unknown match: limit\n" % (FIRST + 1))
-    rows.row("a rule deleted by its number", ["d"], files(dump([quiet, b"-D INPUT 1"])),
-             head([], [b"-m limit"]) + dump([b"-A INPUT -j LOG", b"-D INPUT 1"]), 0,
-             b"d:%d: the rule gives no verdict, taken out: -m limit --limit 5/min\n" % FIRST)
+    yield Row("a rule checked by words", ["d"], files(checked), b"", 1, by_words % (FIRST + 2))
+    yield Row("a rule deleted that would lose words", ["d"], files(dump([b"-A INPUT -j LOG", b"-D INPUT -m limit -j LOG"])), b"", 1,
+              b"fit: d:%d: P7 unknown match: limit\n" % (FIRST + 1))
+    yield Row("a rule deleted by its number", ["d"], files(dump([quiet, b"-D INPUT 1"])),
+              head([], [b"-m limit"]) + dump([b"-A INPUT -j LOG", b"-D INPUT 1"]), 0,
+              b"d:%d: the rule gives no verdict, taken out: -m limit --limit 5/min\n" % FIRST)
     spelled = dump([b"-A INPUT -p TCP", b"-D INPUT -p tcp"])
-    rows.row("a rule deleted, and none loses words", ["d"], files(spelled), spelled.replace(b"TCP", b"6"), 0,
-             b"d:%d: protocol: -p TCP -> -p 6\n" % FIRST)
+    yield Row("a rule deleted, and none loses words", ["d"], files(spelled), spelled.replace(b"TCP", b"6"), 0,
+              b"d:%d: protocol: -p TCP -> -p 6\n" % FIRST)
 
 
-def file_rows(rows):
+def file_rows():
     """Whole files: those that load, marks in them, and those that are no dump."""
     loads = dump([b"-A INPUT -p tcp  --dport 22 -j a"])
     for about, data in (("that loads", loads), ("without a newline", loads[:-1]), ("with a carriage return", b"# x\r\n" + loads)):
-        rows.row("a dump " + about, ["d"], files(data), data, 0)
-    rows.row("an assumption on a dump that loads", ["--assume", "limit=true", "d"], files(loads), loads, 0,
-             b"fit: --assume 'limit=true' wasn't needed\n")
+        yield Row("a dump " + about, ["d"], files(data), data, 0)
+    yield Row("an assumption on a dump that loads", ["--assume", "limit=true", "d"], files(loads), loads, 0,
+              b"fit: --assume 'limit=true' wasn't needed\n")
     returns = b"d:1: carriage return at the end of this line, and of %d more, taken out\n" % (loads.count(b"\n") - 1)
     mark = b"d:1: byte order mark, taken out\n"
-    rows.row("carriage returns", ["d"], files(loads.replace(b"\n", b"\r\n")), loads, 0, returns)
-    rows.row("one carriage return", ["d"], files(loads[:-1].replace(b"-j a\n", b"-j a\r\n")), loads, 0,
-             b"d:%d: carriage return at the end of this line, taken out\nd:%d: newline at the end, added\n" % (FIRST, FIRST + 1))
+    yield Row("carriage returns", ["d"], files(loads.replace(b"\n", b"\r\n")), loads, 0, returns)
+    yield Row("one carriage return", ["d"], files(loads[:-1].replace(b"-j a\n", b"-j a\r\n")), loads, 0,
+              b"d:%d: carriage return at the end of this line, taken out\nd:%d: newline at the end, added\n" % (FIRST, FIRST + 1))
     marked = b"\xef\xbb\xbf" + loads.replace(b"\n", b"\r\n")
-    rows.row("a byte order mark and carriage returns", ["d"], files(marked), loads, 0, mark + returns)
+    yield Row("a byte order mark and carriage returns", ["d"], files(marked), loads, 0, mark + returns)
     rule = b"-A INPUT -p tcp -m comment --comment \"a\rb\" --dport "
-    rows.row("carriage returns and a name", [*NAMES, "d"], files(dump([rule + b"ssh\r"])), dump([rule + b"22"]), 0,
-             b"d:%d: carriage return at the end of this line, taken out\n" % FIRST +
-             b"d:%d: port: --dport ssh -> --dport 22\n" % FIRST)
+    yield Row("carriage returns and a name", [*NAMES, "d"], files(dump([rule + b"ssh\r"])), dump([rule + b"22"]), 0,
+              b"d:%d: carriage return at the end of this line, taken out\n" % FIRST +
+              b"d:%d: port: --dport ssh -> --dport 22\n" % FIRST)
     nat = b"*nat\n-A PREROUTING -p tcp --dport http -m limit -j DNAT\nCOMMIT\n"
-    rows.row("other tables", [*NAMES, "d"], files(nat + dump([b"-A INPUT -p TCP"]) + nat), nat + dump([b"-A INPUT -p 6"]) + nat, 0,
-             b"d:%d: protocol: -p TCP -> -p 6\n" % (FIRST + 3))
-    rows.row("two sections", ["d"], files(dump([b"-A INPUT -p TCP"]) * 2), dump([b"-A INPUT -p 6"]) * 2, 0,
-             b"d:%d: protocol: -p TCP -> -p 6\nd:%d: protocol: -p TCP -> -p 6\n" % (FIRST, 2 * FIRST + 1))
+    yield Row("other tables", [*NAMES, "d"], files(nat + dump([b"-A INPUT -p TCP"]) + nat), nat + dump([b"-A INPUT -p 6"]) + nat, 0,
+              b"d:%d: protocol: -p TCP -> -p 6\n" % (FIRST + 3))
+    yield Row("two sections", ["d"], files(dump([b"-A INPUT -p TCP"]) * 2), dump([b"-A INPUT -p 6"]) * 2, 0,
+              b"d:%d: protocol: -p TCP -> -p 6\nd:%d: protocol: -p TCP -> -p 6\n" % (FIRST, 2 * FIRST + 1))
     empty = b"fit: d: is empty: make a dump with iptables-save.\n"
-    rows.row("an empty file", ["d"], files(b""), b"", 1, empty)
-    rows.row("no section", ["d"], files(nat), b"", 1, b"fit: d: has no section *filter: make a dump with iptables-save.\n")
-    rows.row("a misspelt section", ["d"], files(b"*fliter\n-A INPUT -p TCP\nCOMMIT\n"), b"", 1,
-             b"fit: d:1: *fliter is no table of iptables, so its section is skipped: did you mean *filter?\nfit: d:2: P3 bad value: TCP\n")
-    rows.row("no COMMIT", ["d"], files(b"*filter\n-A INPUT -p TCP\n"), b"", 1, b"fit: d:2: R4 end before COMMIT: *filter\n")
-    rows.row("control characters", ["d"], files(dump([b"-A INPUT -s x\x1b,\x00\xc3\xa4"])), b"", 1,
-             b"fit: d:%d: P3 bad value: x\\x1b,\\x00\xc3\xa4\n" % FIRST)
+    yield Row("an empty file", ["d"], files(b""), b"", 1, empty)
+    yield Row("no section", ["d"], files(nat), b"", 1, b"fit: d: has no section *filter: make a dump with iptables-save.\n")
+    yield Row("a misspelt section", ["d"], files(b"*fliter\n-A INPUT -p TCP\nCOMMIT\n"), b"", 1,
+              b"fit: d:1: *fliter is no table of iptables, so its section is skipped: did you mean *filter?\nfit: d:2: P3 bad value: TCP\n")
+    yield Row("no COMMIT", ["d"], files(b"*filter\n-A INPUT -p TCP\n"), b"", 1, b"fit: d:2: R4 end before COMMIT: *filter\n")
+    yield Row("control characters", ["d"], files(dump([b"-A INPUT -s x\x1b,\x00\xc3\xa4"])), b"", 1,
+              b"fit: d:%d: P3 bad value: x\\x1b,\\x00\xc3\xa4\n" % FIRST)
 
 
-def everyday_rows(rows):
+def everyday_rows():
     """Standard input, rules for IPv6 alone, and a reader that has gone."""
     quiet = dump([b"-A INPUT -m limit -j LOG"])
-    rows.row("standard input", ["-"], {}, head([], [b"-m limit"]) + dump([b"-A INPUT -j LOG"]), 0,
-             b"-:%d: the rule gives no verdict, taken out: -m limit\n" % FIRST, input=quiet)
+    yield Row("standard input", ["-"], {}, head([], [b"-m limit"]) + dump([b"-A INPUT -j LOG"]), 0,
+              b"-:%d: the rule gives no verdict, taken out: -m limit\n" % FIRST, input=quiet)
     lines = [b"-A INPUT -6 -j DROP", b"-A INPUT -p TCP --ipv6", b"-A INPUT -m comment --comment -6", b"-A INPUT -j DROP"]
     out = b"d:%d: a rule for IPv6 only, taken out: "
-    rows.row("rules for IPv6 alone", ["d"], files(dump(lines)), dump(lines[2:]), 0,
-             out % FIRST + lines[0] + b"\n" + out % (FIRST + 1) + lines[1] + b"\n")
-    rows.row("a long list of what is assumed", ["--assume", "string --string " + "x" * 1000 + "=true", "d"],
-             files(dump([b"-A INPUT -m string --string " + b"x" * 1000 + b" -j a"])),
-             b"# iptsim-fit: for trials; assumed string --string " + b"x" * 950 + b" ..\n" + dump([b"-A INPUT -j a"]), 0,
-             b"d:%d: assumed string --string %s=true, taken out: -m string --string %s\n" % (FIRST, b"x" * 1000, b"x" * 1000))
-    closed, output = os.pipe()
-    os.close(closed)
-    rows.row("a closed pipe", ["d"], files(dump([b"-A INPUT -j a"])), b"", -signal.SIGPIPE, stdout=output)
-    os.close(output)
+    yield Row("rules for IPv6 alone", ["d"], files(dump(lines)), dump(lines[2:]), 0,
+              out % FIRST + lines[0] + b"\n" + out % (FIRST + 1) + lines[1] + b"\n")
+    yield Row("a long list of what is assumed", ["--assume", "string --string " + "x" * 1000 + "=true", "d"],
+              files(dump([b"-A INPUT -m string --string " + b"x" * 1000 + b" -j a"])),
+              b"# iptsim-fit: for trials; assumed string --string " + b"x" * 950 + b" ..\n" + dump([b"-A INPUT -j a"]), 0,
+              b"d:%d: assumed string --string %s=true, taken out: -m string --string %s\n" % (FIRST, b"x" * 1000, b"x" * 1000))
+    yield Row("a closed pipe", ["d"], files(dump([b"-A INPUT -j a"])), b"", -signal.SIGPIPE, stdout=UNREAD)
 
 
-def word_rows(rows):
+def word_rows():
     """Words of the line, names of files, and what can't be read."""
     good = files(dump([b"-A INPUT -p TCP"]))
     usage = b"usage: fit [-h] [--assume WORDS=VALUE].. [--noflush] [--services FILE] [--protocols FILE] FILE..\nfit: error: "
-    rows.row("no words", [], {}, b"", 2, usage + b"the following arguments are required: FILE\n")
-    rows.row("a missing file", ["nothing"], good, b"", 2, b"fit: cannot read nothing: No such file or directory\n")
+    yield Row("no words", [], {}, b"", 2, usage + b"the following arguments are required: FILE\n")
+    yield Row("a missing file", ["nothing"], good, b"", 2, b"fit: cannot read nothing: No such file or directory\n")
     for option in ("--services", "--protocols"):
-        rows.row("a missing list", [option, "nothing", "d"], good, b"", 2, b"fit: cannot read nothing: No such file or directory\n")
-    rows.row("an odd name", ["--", b"-\xff"], {b"-\xff".decode(errors="surrogateescape"): good["d"]}, dump([b"-A INPUT -p 6"]), 0,
-             b"-\xff:%d: protocol: -p TCP -> -p 6\n" % FIRST)
-    with open("/dev/full", "wb") as full:
-        rows.row("a full device", ["d"], files(dump([])), b"", 2, b"fit: output failed\n", stdout=full)
+        yield Row("a missing list", [option, "nothing", "d"], good, b"", 2, b"fit: cannot read nothing: No such file or directory\n")
+    yield Row("an odd name", ["--", b"-\xff"], {b"-\xff".decode(errors="surrogateescape"): good["d"]}, dump([b"-A INPUT -p 6"]), 0,
+              b"-\xff:%d: protocol: -p TCP -> -p 6\n" % FIRST)
+    yield Row("a full device", ["d"], files(dump([])), b"", 2, b"fit: output failed\n", stdout="/dev/full")
     why = b"fit: cannot run /nothing: No such file or directory; IPTSIM has to name the program\n"
-    rows.row("no program", ["d"], good, b"", 2, why, env=dict(rows.environment, IPTSIM="/nothing"))
+    yield Row("no program", ["d"], good, b"", 2, why, variables={"IPTSIM": "/nothing"})
     for kind, option in (("port", b"--dport"), ("protocol", b"-p")):
         for name, number in usual_entry(kind):
             rule = b"-A INPUT -p tcp --dport " if kind == "port" else b"-A INPUT -p "
-            rows.row(f"the machine's own {kind}s", ["d"], files(dump([rule + name])), dump([rule + number]), 0,
-                     b"d:%d: %s: %s %s -> %s %s\n" % (FIRST, kind.encode(), option, name, option, number))
+            yield Row(f"the machine's own {kind}s", ["d"], files(dump([rule + name])), dump([rule + number]), 0,
+                      b"d:%d: %s: %s %s -> %s %s\n" % (FIRST, kind.encode(), option, name, option, number))
 
 
 def usual_entry(kind):
@@ -375,18 +365,6 @@ def usual_entry(kind):
     return [(name, number) for name, number in entries if name in (b"pim", b"ipip", b"egp", b"ipencap")][:1]
 
 
-def main(program):
-    rows = Rows("fit", program)
-    spelling_rows(rows)
-    quiet_rows(rows)
-    assumption_rows(rows)
-    never_rows(rows)
-    deletion_rows(rows)
-    file_rows(rows)
-    everyday_rows(rows)
-    word_rows(rows)
-    rows.end()
-
-
-if __name__ == "__main__":
-    main(sys.argv[1])
+@each(spelling_rows, quiet_rows, assumption_rows, deletion_rows, file_rows, everyday_rows, word_rows)
+def test_fit(row, command):
+    command("fit").check(row)

@@ -1,18 +1,17 @@
-"""tests/run commands/places PROGRAM: which program the scripts for users ask, and how they call themselves and each other: in a checkout and where
-they are installed. It runs copies of the scripts, with stand-ins for the programs, which note that they are called and run PROGRAM.
-
-It ends with status 1 where a run isn't as expected, and says what differs.
+"""Which program the commands for users ask, and how they call themselves and each other: in a checkout and where they are installed. Copies of them
+run with stand-ins for the programs, which note that they are called and run the program.
 """
 
 import os
 import shutil
 import subprocess
 import sys
-import tempfile
+
+import pytest
 
 from tests import ROOT
 from tests.shared.installed import install
-from tests.shared.rows import Rows
+from tests.shared.rows import same, script
 
 SLOW = (b"%s: bin/quick runs iptsim without a proof, and slowly: 8,192 rules take iptsim 22 to 110 s, and 0.15 s if it is proved.\n"
         b"%s: install a release, or run bin/iptsim once, which proves and builds the program in about an hour.\n")
@@ -26,8 +25,8 @@ BUILT = 1_000_000_000
 class Trial:
     """A folder with copies of the scripts and stand-ins, and the file in which these note their calls."""
 
-    def __init__(self, rows, folder):
-        self.rows, self.folder, self.notes = rows, folder, os.path.join(folder, "notes")
+    def __init__(self, program, folder):
+        self.program, self.folder, self.notes = program, folder, os.path.join(folder, "notes")
         self.put("d", REFUSED)
 
     def path(self, name):
@@ -39,27 +38,31 @@ class Trial:
             file.write(data)
         os.utime(self.path(name), (when, when))
 
+    def newer(self, name, seconds=9):
+        """Has a file be newer than the program."""
+        os.utime(self.path(name), (BUILT + seconds, BUILT + seconds))
+
     def stand_in(self, name, shift=False):
         """A program that notes its name and runs the real one; that of bin/quick without its first word."""
-        self.put(name, b"#!/bin/sh\necho '%s' >>'%s'\n%sexec '%s' \"$@\"\n" % (
-            name.encode(), self.notes.encode(), b"[ \"$1\" = iptsim ] && shift\n" if shift else b"", self.rows.environment["IPTSIM"].encode()))
-        os.chmod(self.path(name), 0o755)
+        first = '[ "$1" = iptsim ] && shift\n' if shift else ""
+        self.put(name)
+        script(self.path(name), f"#!/bin/sh\necho '{name}' >>'{self.notes}'\n{first}exec '{self.program}' \"$@\"\n")
+        os.utime(self.path(name), (BUILT, BUILT))
 
-    def row(self, about, call, asked, status, output, messages=b"", iptsim=None):
+    def run(self, call, asked, status, output, messages=b"", **variables):
         """A call of a script in the folder, what is due of it, and which program it has to ask."""
         environment = {name: value for name, value in os.environ.items() if name not in ("IPTSIM", "IPTAUDIT")}
-        environment.update({"IPTSIM": iptsim} if iptsim is not None else {})
         self.put("notes")
-        ended = subprocess.run(call, cwd=self.folder, env=environment, capture_output=True, check=False)
+        ended = subprocess.run(call, cwd=self.folder, env={**environment, **variables}, stdin=subprocess.DEVNULL, capture_output=True, check=False)
         with open(self.notes, encoding="utf-8") as file:
-            names = "\n".join(sorted(set(file.read().split())))
-        self.rows.compared(about, (status, output, messages, "\n".join(asked).encode()),
-                           (ended.returncode, ended.stdout, ended.stderr, names.encode()))
+            names = sorted(set(file.read().split()))
+        same((status, output, messages, asked), (ended.returncode, ended.stdout, ended.stderr, names))
 
 
-def checkout(rows, folder):
+@pytest.fixture
+def checkout(iptsim, folder):
     """A checkout in which all was made when the program was built."""
-    trial = Trial(rows, folder)
+    trial = Trial(iptsim.path, folder)
     for name in ("bin", "commands"):
         shutil.copytree(os.path.join(ROOT, name), trial.path(name), ignore=shutil.ignore_patterns("quick", "iptsim", "__pycache__"))
     with open(os.path.join(ROOT, "crates.txt"), "rb") as file:
@@ -70,67 +73,87 @@ def checkout(rows, folder):
     for path, _, _ in os.walk(trial.path("crates")):
         os.utime(path, (BUILT, BUILT))
     trial.stand_in("bin/quick", shift=True)
-    trial.stand_in("crates/iptsim/out/iptsim")
+    trial.stand_in(PROVED)
     return trial
 
 
-def checkout_rows(rows, folder):
-    """The proved program where it is up to date, and else bin/quick, of which is said once that it is slow."""
-    trial, proved, quick = checkout(rows, folder), ["crates/iptsim/out/iptsim"], ["bin/quick"]
-    text, slow = LIMIT % b"bin/fit", SLOW % (b"check", b"check")
-    trial.row("a proved program", ["bin/check", "d"], proved, 1, text)
-    for name in ("crates/bench/src/inner/file", "crates/fields/must-fail/inner/file", "bin/check"):
-        os.utime(trial.path(name), (BUILT + 9, BUILT + 9))
-        trial.row(f"a newer {name}", ["bin/check", "d"], proved, 1, text)
-    for name in ("crates/iptsim/src/inner/file", "crates/table/specs/inner/file", "crates/fields/proofs/inner", "crates.txt"):
-        os.utime(trial.path(name), (BUILT + 1, BUILT + 1))
-        trial.row(f"a newer {name}", ["bin/check", "d"], quick, 1, text, slow)
-        os.utime(trial.path(name), (BUILT, BUILT))
-    trial.row("a proved program again", [trial.path("bin/check"), "d"], proved, 1, text)
-    os.symlink("bin/fit", trial.path("linked"))
-    os.chmod(trial.path(proved[0]), 0o644)
-    trial.row("a program that can't be run", ["./linked", "--assume", "limit=false", "d"], quick, 0,
-              b"# iptsim-fit: for trials; assumed limit=false\n*filter\n-A INPUT ! -s 0.0.0.0/0 -j DROP\nCOMMIT\n",
-              SLOW % (b"linked", b"linked") + b"d:2: assumed limit=false, never matches by ! -s 0.0.0.0/0: -m limit\n")
-    os.remove(trial.path(proved[0]))
-    trial.row("no proved program", ["bin/check", "d", "d"], quick, 1, text * 2, slow)
-    trial.row("a program that is named", ["bin/check", "d"], [], 1, text, iptsim=rows.environment["IPTSIM"])
-    trial.row("an empty name", ["bin/check", "d"], quick, 1, text, slow, iptsim="")
-    audit, slow = trial.path("crates/iptaudit/out/iptaudit"), SLOW.replace(b"runs iptsim", b"runs iptaudit").replace(b"bin/iptsim", b"bin/iptaudit")
-    trial.row("the other program", [sys.executable, "-c", AUDIT], [], 0, f"{trial.path('bin/quick')} iptaudit\n".encode(), slow % (b"-c", b"-c"))
-    trial.stand_in("crates/iptaudit/out/iptaudit")
-    trial.row("the other program, proved", [sys.executable, "-c", AUDIT], [], 0, f"{audit}\n".encode())
-    trial.row("the other program by its name", ["env", "IPTAUDIT=x", sys.executable, "-c", AUDIT], [], 0, b"x\n")
+PROVED, QUICK, CALL = "crates/iptsim/out/iptsim", "bin/quick", ["bin/check", "d"]
+TEXT, OF_CHECK = LIMIT % b"bin/fit", SLOW % (b"check", b"check")
 
 
-def installed_rows(rows, folder):
-    """The installed program; commands are named as they are called."""
-    trial, program, text = Trial(rows, folder), ["to/bin/iptsim"], LIMIT % b"iptsim-fit"
+def test_proved_program(checkout):
+    checkout.run(CALL, [PROVED], 1, TEXT)
+    checkout.run([checkout.path("bin/check"), "d"], [PROVED], 1, TEXT)
+
+
+@pytest.mark.parametrize("name", ["crates/bench/src/inner/file", "crates/fields/must-fail/inner/file", "bin/check"])
+def test_newer_file_beside_the_sources(name, checkout):
+    checkout.newer(name)
+    checkout.run(CALL, [PROVED], 1, TEXT)
+
+
+@pytest.mark.parametrize("name", ["crates/iptsim/src/inner/file", "crates/table/specs/inner/file", "crates/fields/proofs/inner", "crates.txt"])
+def test_newer_source(name, checkout):
+    """The proved program isn't up to date, so bin/quick is asked, of which is said once that it is slow."""
+    checkout.newer(name, 1)
+    checkout.run(CALL, [QUICK], 1, TEXT, OF_CHECK)
+
+
+def test_program_that_cannot_be_run(checkout):
+    os.symlink("bin/fit", checkout.path("linked"))
+    os.chmod(checkout.path(PROVED), 0o644)
+    checkout.run(["./linked", "--assume", "limit=false", "d"], [QUICK], 0,
+                 b"# iptsim-fit: for trials; assumed limit=false\n*filter\n-A INPUT ! -s 0.0.0.0/0 -j DROP\nCOMMIT\n",
+                 SLOW % (b"linked", b"linked") + b"d:2: assumed limit=false, never matches by ! -s 0.0.0.0/0: -m limit\n")
+
+
+def test_no_proved_program(checkout):
+    os.remove(checkout.path(PROVED))
+    checkout.run([*CALL, "d"], [QUICK], 1, TEXT * 2, OF_CHECK)
+    checkout.run(CALL, [], 1, TEXT, IPTSIM=checkout.program)
+    checkout.run(CALL, [QUICK], 1, TEXT, OF_CHECK, IPTSIM="")
+
+
+def test_iptaudit(checkout):
+    """The other program, by the call that commands make."""
+    slow, call = SLOW.replace(b"runs iptsim", b"runs iptaudit").replace(b"bin/iptsim", b"bin/iptaudit"), [sys.executable, "-c", AUDIT]
+    checkout.run(call, [], 0, f"{checkout.path(QUICK)} iptaudit\n".encode(), slow % (b"-c", b"-c"))
+    checkout.stand_in("crates/iptaudit/out/iptaudit")
+    checkout.run(call, [], 0, f"{checkout.path('crates/iptaudit/out/iptaudit')}\n".encode())
+    checkout.run(call, [], 0, b"x\n", IPTAUDIT="x")
+
+
+@pytest.fixture
+def installation(iptsim, folder):
+    trial = Trial(iptsim.path, folder)
     os.mkdir(trial.path("to"))
     install(trial.path("to"), "check", "fit")
     trial.stand_in("to/bin/iptsim")
-    trial.row("an installed command", ["to/bin/iptsim-check", "d"], program, 1, text)
     os.symlink("to/bin/iptsim-check", trial.path("linked"))
-    trial.row("a link to it", ["./linked", "d"], program, 1, text)
-    trial.row("wrong words", ["to/bin/iptsim-fit"], [], 2, b"",
-              b"usage: iptsim-fit [-h] [--assume WORDS=VALUE].. [--noflush] [--services FILE] [--protocols FILE] FILE..\n"
-              b"iptsim-fit: error: the following arguments are required: FILE\n")
-    trial.put("session", b"packet INPUT\n")
-    trial.row("a session for a dump", ["to/bin/iptsim-check", "session"], [], 1,
-              b"session:1: `packet` begins a line of a session, not of a dump: run the file with `iptsim session`.\n")
-    trial.row("another program", ["to/bin/iptsim-check", "d"], [], 1, text, iptsim=rows.environment["IPTSIM"])
-    os.remove(trial.path(program[0]))
-    why = f"iptsim-check: cannot run {trial.path(program[0])}: No such file or directory; IPTSIM has to name the program\n"
-    trial.row("no program", ["to/bin/iptsim-check", "d"], [], 2, b"", why.encode())
+    return trial
 
 
-def main(program):
-    rows = Rows("places", program)
-    for part in (checkout_rows, installed_rows):
-        with tempfile.TemporaryDirectory() as folder:
-            part(rows, os.path.realpath(folder))
-    rows.end()
+@pytest.mark.parametrize("path", ["to/bin/iptsim-check", "./linked"])
+def test_installed_program(path, installation):
+    installation.run([path, "d"], ["to/bin/iptsim"], 1, LIMIT % b"iptsim-fit")
 
 
-if __name__ == "__main__":
-    main(sys.argv[1])
+def test_another_program(installation):
+    installation.run(["to/bin/iptsim-check", "d"], [], 1, LIMIT % b"iptsim-fit", IPTSIM=installation.program)
+
+
+def test_installed_names(installation):
+    """Commands are named as they are called."""
+    installation.run(["to/bin/iptsim-fit"], [], 2, b"",
+                     b"usage: iptsim-fit [-h] [--assume WORDS=VALUE].. [--noflush] [--services FILE] [--protocols FILE] FILE..\n"
+                     b"iptsim-fit: error: the following arguments are required: FILE\n")
+    installation.put("session", b"packet INPUT\n")
+    installation.run(["to/bin/iptsim-check", "session"], [], 1,
+                     b"session:1: `packet` begins a line of a session, not of a dump: run the file with `iptsim session`.\n")
+
+
+def test_no_installed_program(installation):
+    path = installation.path("to/bin/iptsim")
+    os.remove(path)
+    installation.run(["to/bin/iptsim-check", "d"], [], 2, b"",
+                     f"iptsim-check: cannot run {path}: No such file or directory; IPTSIM has to name the program\n".encode())

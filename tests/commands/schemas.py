@@ -1,26 +1,19 @@
-"""tests/run commands/schemas PROGRAM [AUDIT]: has the commands that write JSON write documents, AUDIT as iptaudit among them where it is given,
-and validates each by the schema of its command in docs/schemas, with the validator of Debian's python3-jsonschema. Without that it says so, and
-ends with 0.
+"""The documents that commands write as JSON, beside the schema of each in docs/schemas, by the validator of Debian's python3-jsonschema.
 
 A schema that accepts too much is at fault, too: in each document each value is replaced by a list of null, and each object gets a key
 more, and all of these have to be refused. And the documents of a schema have all keys that it names.
-
-It prints how many documents were as expected, and ends with 0; or it says what differs, and ends with 1.
 """
 
+import functools
 import json
 import os
-import sys
+
+import pytest
 
 from tests import ROOT
 from tests.programs.audited.documents import schema_rows
-from tests.shared.rows import Rows
 
-try:
-    from jsonschema import Draft202012Validator
-except ImportError:
-    Draft202012Validator = None
-
+jsonschema = pytest.importorskip("jsonschema")
 SCHEMAS = os.path.join(ROOT, "docs", "schemas")
 DUMP = b"""*filter
 :INPUT DROP [0:0]
@@ -43,15 +36,15 @@ REFUSED = b"*filter\n-A INPUT -m \xff\n-A INPUT -p tcp --dport ssh\n-A INPUT -6\
 SESSION = b"packet input src=1.1.1.1\niptables -L\niptables -A INPUT -j ACEPT\n"
 LOADS, LOADS_NOT = {"R": DUMP, "E": TESTS}, {"R": b"*filter\n-A INPUT -m limit\nCOMMIT\n", "E": TESTS}
 
-# A schema and the script that writes such documents; for each of these its words, files, standard input and status.
+# A schema, which has the name of the command that writes such documents; for each of these its words, files, standard input and status.
 ROWS = {
-    ("check", "check"): [
+    "check": [
         (["--json", "R"], LOADS, b"", 0),
         (["--json", "R", "X", "-"], {**LOADS, "X": REFUSED}, b"", 1),
         (["--json", "--session", "X"], {"X": SESSION}, b"", 1),
         (["--json", "missing"], LOADS, b"", 2),
     ],
-    ("expect", "expect"): [
+    "expect": [
         (["--json", "R", "E"], LOADS, b"", 1),
         (["--json", "--quiet", "R", "E"], LOADS, b"", 1),
         (["--json", "R", "E"], {**LOADS, "E": LOGIN}, b"", 0),
@@ -60,7 +53,7 @@ ROWS = {
         (["--json", "R", "E"], LOADS_NOT, b"", 1),
         (["--json", "R", "missing"], LOADS, b"", 2),
     ],
-    ("explain", "explain"): [
+    "explain": [
         (["--json", "R"], LOADS, b"\n".join(PACKETS), 0),
         (["--json", "--why-not", "R"], LOADS, b"# All\n\n" + b"\n".join(PACKETS), 0),
         (["--json", "--why-not", "R", os.fsdecode(LOCAL[7:])], LOADS, b"", 0),
@@ -69,6 +62,7 @@ ROWS = {
         (["--json", "R"], LOADS_NOT, LOCAL, 1),
         (["--json", "missing"], LOADS, LOCAL, 2),
     ],
+    "iptaudit": schema_rows(),
 }
 
 
@@ -113,45 +107,41 @@ def document_of(output):
         return None
 
 
-def check_row(rows, validator, row):
-    """Validates the document of a row, and returns its keys."""
-    words, files, given, due = row
-    ended = rows.run(words, files, input=given)
-    document = document_of(ended.stdout)
-    about = f"{rows.script} {' '.join(words)}"
-    faults = [f"{error.json_path}: {error.message}" for error in validator.iter_errors(document)]
-    faults += [f"accepted with a fault at {path}" for path, wrong in damaged(document) if validator.is_valid(wrong)]
-    rows.compared(about, (due, b""), (ended.returncode, "\n".join(faults).encode()))
-    return {key for path in places(document) for key in path if isinstance(key, str)}
-
-
-def check_schema(name, script, program, table):
-    """Validates the documents of a schema, and returns how it went."""
+@functools.lru_cache(maxsize=None)
+def schema_of(name):
     with open(os.path.join(SCHEMAS, name + ".json"), encoding="utf-8") as file:
         schema = json.load(file)
-    Draft202012Validator.check_schema(schema)
-    rows = Rows("schemas", program, script)
-    written = set().union(*(check_row(rows, Draft202012Validator(schema), row) for row in table))
-    missing = sorted(keys(schema) - written)
-    rows.compared(f"keys of {name}.json that no document has", (0, b""), (0, " ".join(missing).encode()))
-    return rows
+    jsonschema.Draft202012Validator.check_schema(schema)
+    return schema
 
 
-def main(program, audit=None):
-    if Draft202012Validator is None:
-        print("schemas: passed over, since python3-jsonschema isn't there, or knows no draft 2020-12")
-        return 0
-    tables = {**ROWS, **({("iptaudit", os.path.abspath(audit)): schema_rows()} if audit else {})}
-    known = {"iptaudit", *(name for name, _ in tables)}
-    unknown = sorted(file for file in os.listdir(SCHEMAS) if file[:-len(".json")] not in known)
-    checked = [check_schema(name, script, program, table) for (name, script), table in tables.items()]
-    if unknown:
-        print(f"schemas: no row writes a document of {', '.join(unknown)}", file=sys.stderr)
-    if unknown or any(rows.wrong for rows in checked):
-        return 1
-    print(f"schemas: {sum(rows.count for rows in checked)} documents and schemas were as expected")
-    return 0
+def run(name, row, command, request):
+    """Runs a row."""
+    words, files, given, _ = row
+    asked = request.getfixturevalue("iptaudit") if name == "iptaudit" else command(name)
+    return asked.run(words, files, given)
 
 
-if __name__ == "__main__":
-    sys.exit(main(*sys.argv[1:]))
+FLAT = [(name, row) for name, rows in ROWS.items() for row in rows]
+
+
+@pytest.mark.parametrize("name, row", FLAT, ids=[f"{name} {' '.join(map(str, row[0]))}" for name, row in FLAT])
+def test_document(name, row, command, request):
+    ended, validator = run(name, row, command, request), jsonschema.Draft202012Validator(schema_of(name))
+    document = document_of(ended.stdout)
+    faults = [f"{error.json_path}: {error.message}" for error in validator.iter_errors(document)]
+    faults += [f"accepted with a fault at {path}" for path, wrong in damaged(document) if validator.is_valid(wrong)]
+    assert (faults, ended.returncode) == ([], row[3])
+
+
+@pytest.mark.parametrize("name", ROWS)
+def test_keys(name, command, request):
+    """Each key that a schema names is one of some document."""
+    documents = [document_of(run(name, row, command, request).stdout) for row in ROWS[name]]
+    written = {key for document in documents for path in places(document) for key in path if isinstance(key, str)}
+    assert sorted(keys(schema_of(name)) - written) == []
+
+
+def test_schemas():
+    """Each schema has rows of documents."""
+    assert sorted(os.listdir(SCHEMAS)) == sorted(name + ".json" for name in ROWS)

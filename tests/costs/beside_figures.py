@@ -1,10 +1,8 @@
-"""tests/run costs/beside_figures PROGRAM AUDIT [FIGURES]: compares what tests/costs/costs counts of iptsim, which is PROGRAM, with 1,024
-rules, and what tests/costs/steps counts of iptaudit, which is AUDIT, with stored figures: those of FIGURES, or of the file tests/costs/figures.
-Times and memory are no part of them.
+"""What tests/costs/costs counts of iptsim with 1,024 rules, and what tests/costs/steps counts of iptaudit, beside the figures of the file
+tests/costs/figures. Times and memory are no part of them.
 
-It ends with status 1 where a figure is more than a tenth off, and says by how much: a cost that grew is a fault, and one that fell is to be
-stored. `tests/run costs/beside_figures --store PROGRAM AUDIT [FIGURES]` stores them. Where valgrind or strace, which count, isn't installed, it
-says that the figures are passed over, and ends with status 0.
+A figure that is more than a tenth off fails: a cost that grew is a fault, and one that fell is to be stored, as
+`python3 -m tests.costs.beside_figures IPTSIM IPTAUDIT` stores all.
 """
 
 import os
@@ -13,15 +11,21 @@ import shutil
 import subprocess
 import sys
 
+import pytest
+
 from tests import ROOT
 
-RUN, FIGURES = os.path.join(ROOT, "tests", "run"), os.path.join(ROOT, "tests", "costs", "figures")
+pytestmark = pytest.mark.usefixtures("proved")
+FIGURES = os.path.join(ROOT, "tests", "costs", "figures")
 RULES = 1024
+# The module that counts each program's figures, with further words; those of the second are named by these words.
+COUNTED = {"iptsim": ("tests.costs.costs", [str(RULES)]), "iptaudit": ("tests.costs.steps", [])}
+OF_AUDIT = re.compile(": (?:dead|steps of .*)$")
 
 
-def rows(words):
-    """The rows of the tables that a script prints: the first cell, and the others under their headings."""
-    run = subprocess.run(words, stdout=subprocess.PIPE, stderr=subprocess.DEVNULL, check=True)
+def rows(module, words):
+    """The rows of the tables that a module prints: the first cell, and the others under their headings."""
+    run = subprocess.run([sys.executable, "-m", module, *words], cwd=ROOT, stdout=subprocess.PIPE, stderr=subprocess.DEVNULL, check=True)
     lines = [[cell.strip() for cell in line.strip("| ").split(" | ")] for line in run.stdout.decode().splitlines()]
     heads = []
     for cells, below in zip(lines, [*lines[1:], [""]]):
@@ -36,48 +40,52 @@ def number(cell):
     return float(cell.replace(",", "")) if found else None
 
 
-def counted(program, audit):
-    """All figures, each with a name."""
-    figures = {}
-    for words in ([RUN, "costs/costs", program, str(RULES)], [RUN, "costs/steps", audit]):
-        for name, cells in rows(words):
-            for heading, cell in cells.items():
-                if number(cell) is not None and heading != "rules" and "iptables-legacy" not in name + heading:
-                    figures[f"{name}: {heading}"] = number(cell)
-    return figures
+def counted(name, path):
+    """The figures of a program, each with a name."""
+    module, words = COUNTED[name]
+    return {f"{row}: {heading}": number(cell) for row, cells in rows(module, [path, *words]) for heading, cell in cells.items()
+            if number(cell) is not None and heading != "rules" and "iptables-legacy" not in row + heading}
 
 
-def stored(path):
-    with open(path, encoding="ascii") as file:
+def stored():
+    with open(FIGURES, encoding="ascii") as file:
         rows = [line.rstrip("\n").rpartition("\t") for line in file]
     return {name: float(figure) for name, _, figure in rows}
 
 
-def main():
-    words = [word for word in sys.argv[1:] if word != "--store"]
-    if len(words) not in (2, 3) or not all(os.access(path, os.X_OK) for path in words[:2]):
-        print("costs: call it as tests/run costs/beside_figures PROGRAM AUDIT [FIGURES], with two programs that can be run", file=sys.stderr)
-        return 2
-    for tool in ("valgrind", "strace"):
-        if not shutil.which(tool):
-            print(f"costs: the figures are passed over, since {tool} isn't there")
-            return 0
-    path = words[2] if len(words) == 3 else FIGURES
-    came = counted(*(os.path.abspath(word) for word in words[:2]))
-    if "--store" in sys.argv:
-        with open(path, "w", encoding="ascii") as file:
-            file.writelines(f"{name}\t{figure:g}\n" for name, figure in came.items())
-        return 0
-    due, faults = stored(path), 0
-    # What a line of the table is rounded to is no difference.
-    for name in sorted({*due, *came}):
-        if name not in came or name not in due or abs(came[name] - due[name]) > max(0.1 * due[name], 0.1):
-            print(f"costs: {name}: {came.get(name, 'no figure')}, where {due.get(name, 'none')} is stored", file=sys.stderr)
-            faults += 1
-    if faults:
-        return 1
-    print(f"costs: {len(due)} figures are within a tenth of those that are stored")
-    return 0
+def program_of(name):
+    return "iptaudit" if OF_AUDIT.search(name) else "iptsim"
 
 
-sys.exit(main())
+@pytest.fixture(scope="module")
+def figures(request):
+    """The figures of both programs, as they are asked for."""
+    found = {}
+
+    def of_program(name):
+        for tool in ("valgrind", "strace"):
+            if not shutil.which(tool):
+                pytest.skip(f"{tool} isn't there")
+        if name not in found:
+            found[name] = counted(name, request.getfixturevalue(name).path)
+        return found[name]
+
+    return of_program
+
+
+@pytest.mark.parametrize("name", [pytest.param(name, marks=pytest.mark.xdist_group(f"costs of {program_of(name)}")) for name in stored()])
+def test_figure(name, figures):
+    """What a line of the table is rounded to is no difference."""
+    due, came = stored()[name], figures(program_of(name)).get(name)
+    assert came is not None and abs(came - due) <= max(0.1 * due, 0.1)
+
+
+@pytest.mark.parametrize("program", [pytest.param(name, marks=pytest.mark.xdist_group(f"costs of {name}")) for name in COUNTED])
+def test_names(program, figures):
+    """Each figure that is counted is stored."""
+    assert sorted(figures(program)) == sorted(name for name in stored() if program_of(name) == program)
+
+
+if __name__ == "__main__":
+    with open(FIGURES, "w", encoding="ascii") as file:
+        file.writelines(f"{name}\t{figure:g}\n" for program, path in zip(COUNTED, sys.argv[1:]) for name, figure in counted(program, os.path.abspath(path)).items())

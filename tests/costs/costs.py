@@ -1,4 +1,4 @@
-"""tests/run costs/costs PROGRAM [RULES]: what the program costs, in numbers that a busy machine doesn't change: instructions, as valgrind
+"""`python3 -m tests.costs.costs PROGRAM [RULES]`: what the program costs, in numbers that a busy machine doesn't change: instructions, as valgrind
 counts them, and writes, as strace does.
 
 It prints two tables. The first has columns for one rule alone, and for so many rules (8,192, where it isn't said) of three kinds, and as rows: a load; a packet
@@ -114,7 +114,7 @@ def of_shapes(program, count, iptables, folder):
 
 def main():
     if len(sys.argv) not in (2, 3) or not shutil.which("valgrind"):
-        print("costs: tests/run costs/costs PROGRAM [RULES]; it wants valgrind", file=sys.stderr)
+        print("costs: python3 -m tests.costs.costs PROGRAM [RULES]; it wants valgrind", file=sys.stderr)
         return 2
     program = os.path.abspath(sys.argv[1])
     count = int(sys.argv[2]) if len(sys.argv) == 3 else 8192
@@ -128,4 +128,5 @@ def main():
     return 0
 
 
-sys.exit(main())
+if __name__ == "__main__":
+    sys.exit(main())

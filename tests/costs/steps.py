@@ -1,4 +1,4 @@
-"""tests/run costs/steps AUDIT [FILE..]: what questions about all packets take, asked of rulesets by iptaudit, which is AUDIT. For each FILE, or
+"""`python3 -m tests.costs.steps AUDIT [FILE..]`: what questions about all packets take, asked of rulesets by iptaudit, which is AUDIT. For each FILE, or
 where none is given 1,024 rules of each of three kinds, it prints as a table: how many rules there are, and how many are dead; the least number of
 steps (`--steps`), to one in a hundred, with which `dead` leaves none unclear, and with which `compare` of the ruleset with one that has a rule
 more, for one source and one port, which decides nothing, leaves no chain unclear; and the processor's time and the memory of that run. Where a
@@ -78,7 +78,7 @@ def row(texts):
 
 def main():
     if len(sys.argv) < 2 or not os.access(sys.argv[1], os.X_OK):
-        print("steps: call it as tests/run costs/steps AUDIT [FILE..], with a program that can be run", file=sys.stderr)
+        print("steps: call it as python3 -m tests.costs.steps AUDIT [FILE..], with a program that can be run", file=sys.stderr)
         return 2
     audit = os.path.abspath(sys.argv[1])
     row(["ruleset", "rules", "dead", "steps of `dead`", "time", "memory", "steps of `compare`", "time", "memory"])
@@ -100,4 +100,5 @@ def main():
     return 0
 
 
-sys.exit(main())
+if __name__ == "__main__":
+    sys.exit(main())

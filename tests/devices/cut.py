@@ -1,5 +1,5 @@
-"""tests/run devices/cut PROGRAM [WORD..]: plays short cases of crates/cases/data on the program, over input that is cut at each byte and over
-devices that fail, and compares what it writes and its status with the plain model of tests/model, to the byte.
+"""Short cases of crates/cases/data on iptsim, over input that is cut at each byte and over devices that fail: what it writes and its status beside the
+plain model of tests/model, to the byte.
 
 Of each case, as a session and as a restore by itself:
 
@@ -14,15 +14,16 @@ Of each case, as a session and as a restore by itself:
 Then each case, but for those of more than 3,000 bytes, is damaged at some places: a byte is left out, doubled, or another in its place, as
 a fixed seed draws it. Eight damaged sessions after one another make an input.
 
-The short cases are those in which each kind of line and each command comes once, as far as they do in cases of 140 bytes at most. With
-words it takes the cases whose file or name has them. PROGRAM is any build of iptsim. How a reader or writer is called otherwise, as one that is
-interrupted, `devices` shows. It ends with 1 at the first run that isn't as is due.
+The short cases are those in which each kind of line and each command comes once, as far as they do in cases of 140 bytes at most.
+`--cases WORD` takes the cases whose file or name has the word. How a reader or writer is called otherwise, as one that is interrupted, `devices`
+shows.
 """
 
-import os
+import functools
 import random
 import re
-import sys
+
+import pytest
 
 from tests.devices.odd_devices import Devices
 from tests.model import printing
@@ -34,21 +35,18 @@ from tests.shared.case_files import all_cases
 from tests.shared.played import Told, chosen, coarse_kinds_of, plays_of, size_of
 
 # How many bytes cases have that are cut, and that are damaged; how many damaged ones make an input; of how many bytes parts are.
-SHORT, LONG, DAMAGED, SEED, PIECE = 140, 3000, 8, 1, 7
+SHORT, LONG, DAMAGED, PIECE = 140, 3000, 8, 7
+PARTS = 8
 INPUT_FAILED, OUTPUT_FAILED = b"iptsim: input failed\n", b"iptsim: output failed\n"
 # Bytes that separate words and lines, or begin them, or none of these.
 SIGNS = b"\n\n\n -!#*:<\"\\\t,0z\x00\xff"
-
-
-class Difference(Exception):
-    """A run that isn't as is due."""
 
 
 def compare(about, play, data, came, due):
     if came != due:
         texts = [f"cut: {play.name}: {about}, {' '.join(play.words)}", "== input"]
         texts += ["  " + repr(line)[2:-1][:400] for line in data.split(b"\n")]
-        raise Difference("\n".join([*texts, f"== what came\n  {came}", f"== what is due\n  {due}"]))
+        pytest.fail("\n".join([*texts, f"== what came\n  {came}", f"== what is due\n  {due}"]), pytrace=False)
 
 
 class Reading:
@@ -159,25 +157,24 @@ def damage(devices, play, dice):
     compare(f"damaged at {DAMAGED} places", play, told.data(), devices.whole(play.words, told.data()), told.due())
 
 
-def main(path, *words):
-    devices, dice = Devices(os.path.abspath(path)), random.Random(SEED)
-    plays = [play for case in all_cases(words, LONG) if size_of(case) <= LONG for play in plays_of(case) if play.file is None]
-    short = [play for play in plays if len(play.data) <= SHORT]
-    short = short if words else chosen(short, 1, coarse_kinds_of)
-    sessions = [play for play in plays if play.words == ("session",)]
-    try:
-        for play in short:
-            cut_input(devices, play)
-            cut_output(devices, play)
-        for play in sessions:
-            damage(devices, play, dice)
-    except Difference as difference:
-        print(difference, file=sys.stderr)
-        return 1
-    print(f"cut: {devices.runs} runs of {len(short)} cases that were cut and of {len(sessions)} that were damaged were as is due")
-    return 0
+@functools.lru_cache(maxsize=None)
+def plays(words):
+    """The cases that are short enough to be cut, and the sessions that are damaged."""
+    found = [play for case in all_cases(words, LONG) if size_of(case) <= LONG for play in plays_of(case) if play.file is None]
+    short = [play for play in found if len(play.data) <= SHORT]
+    return short if words else chosen(short, 1, coarse_kinds_of), [play for play in found if play.words == ("session",)]
 
 
-if len(sys.argv) < 2:
-    sys.exit(__doc__)
-sys.exit(main(*sys.argv[1:]))
+@pytest.mark.parametrize("part", range(PARTS))
+def test_cut(part, iptsim, cases):
+    devices = Devices(iptsim.path)
+    for play in plays(cases)[0][part::PARTS]:
+        cut_input(devices, play)
+        cut_output(devices, play)
+
+
+@pytest.mark.parametrize("part", range(PARTS))
+def test_damaged(part, iptsim, cases, seed):
+    devices = Devices(iptsim.path)
+    for play in plays(cases)[1][part::PARTS]:
+        damage(devices, play, random.Random(f"{seed} {play.name}"))

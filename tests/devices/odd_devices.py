@@ -49,18 +49,16 @@ class Devices:
     """A program's runs over such devices."""
 
     def __init__(self, path):
-        self.path, self.runs = path, 0
+        self.path = path
 
     def run(self, words, device, **more):
         """A run on an input device: standard output, standard error and the status."""
-        self.runs += 1
         given = {"stdout": subprocess.PIPE, "stderr": subprocess.PIPE, **more}
         ended = subprocess.run([self.path, *words], stdin=device, check=False, **given)
         return ended.stdout, ended.stderr, ended.returncode
 
     def whole(self, words, data):
         """A run on an input that comes at once."""
-        self.runs += 1
         ended = subprocess.run([self.path, *words], input=data, capture_output=True, check=False)
         return ended.stdout, ended.stderr, ended.returncode
 

@@ -1,4 +1,4 @@
-"""tests/run devices/stalled PROGRAM: runs a session of the program whose first write fails, on a device that takes what is written after it.
+"""A session of iptsim whose first write fails, on a device that takes what is written after it.
 
 The device is a socket that is full: a write to it fails after some seconds. Once the program has ended, or has waited longer
 than that, the socket is emptied. What a failed write left may not be written again, so nothing comes after what filled it.
@@ -9,7 +9,6 @@ import fcntl
 import socket
 import struct
 import subprocess
-import sys
 import termios
 import time
 
@@ -38,7 +37,7 @@ def has_read(pipe):
     return left[0] == 0
 
 
-def main(program):
+def check(program):
     reader, device = socket.socketpair()
     held = fill(device)
     device.setsockopt(socket.SOL_SOCKET, socket.SO_SNDTIMEO, struct.pack("ll", FAILS, 0))
@@ -56,11 +55,5 @@ def main(program):
     while part := reader.recv(65536):
         written += part
     _, errors = run.communicate()
-    if len(written) != held:
-        raise SystemExit(f"stalled: after a failed write the program wrote {bytes(written[held:])}")
-    if run.returncode != 1 or errors != b"iptsim: output failed\n":
-        raise SystemExit(f"stalled: the program ended with status {run.returncode} and wrote {errors}")
-
-
-if __name__ == "__main__":
-    main(sys.argv[1])
+    assert bytes(written[held:]) == b""
+    assert (run.returncode, errors) == (1, b"iptsim: output failed\n")

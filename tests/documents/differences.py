@@ -1,22 +1,16 @@
-"""tests/run documents/differences PROGRAM: runs each row of docs/differences.tsv on PROGRAM.
-
-The file says at its top how a row is read. What stands under `given` is given to the program, and its answer has to be what stands under
-`iptsim`. What stands in backquotes under `instead` has to be accepted, and rules there to be listed as they stand. The column `iptables`
-is not run.
+"""The rows of docs/differences.tsv, which says at its top how a row is read. What stands under `given` is given to the program, and its answer has to be
+what stands under `iptsim`. What stands in backquotes under `instead` has to be accepted, and rules there to be listed as they stand. The column
+`iptables` is not run.
 
 A row that can't be read is refused, with its line; wrong answers are planted beside the first row of each theme, and malformed rows in
 the file: they have to be found, or the check itself is at fault.
-
-It prints how many runs and rows were as expected, and ends with 0; or it says which rows aren't as the file says, each with its line,
-and ends with 1. Without a program that can be run it ends with 2.
 """
-import os
-import re
-import subprocess
-import sys
-from concurrent.futures import ThreadPoolExecutor
 
-from tests.shared.differences import COLUMNS, DOCUMENT, Malformed, is_command, read, rows_of, session_line
+import re
+
+import pytest
+
+from tests.shared.differences import COLUMNS, Malformed, is_command, read, rows_of, session_line
 
 EMPTY_LISTING = "*filter\n:INPUT ACCEPT [0:0]\n:FORWARD ACCEPT [0:0]\n:OUTPUT ACCEPT [0:0]\nCOMMIT\n"
 TOLD = re.compile(r"line ([0-9]+): ([A-Z][0-9]+) .*")
@@ -28,7 +22,7 @@ MALFORMED = (("theme", ""), ("form", "table"), ("given", "-j DROP"), ("given", "
 
 def run(program, words, lines, end="\n"):
     """The status of a run on these lines, and the lines that it wrote."""
-    ended = subprocess.run([program] + words, input=("\n".join(lines) + end).encode(), stdout=subprocess.PIPE, timeout=60)
+    ended = program.run(words, input=("\n".join(lines) + end).encode(), timeout=60)
     return ended.returncode, ended.stdout.decode(errors="replace").split("\n")[:-1]
 
 
@@ -107,66 +101,38 @@ def shown(lines):
 
 
 def troubles_of(program, row):
-    """What isn't as the file says, and how many runs were made."""
+    """What isn't as the file says."""
     got, due, given = answer(program, row), wanted(row), shown(row.entries("given"))
     troubles = [] if got == due else ["%s is answered by %s, and not by %s" % (given, shown(got), shown(due))]
-    if not row.entries("instead"):
-        return troubles, 1
-    trouble = trouble_of_instead(program, row)
-    return troubles + ([given + ": " + trouble] if trouble else []), 2
+    trouble = trouble_of_instead(program, row) if row.entries("instead") else None
+    return troubles + ([given + ": " + trouble] if trouble else [])
 
 
-def is_planted_found(program, row):
-    """Whether wrong answers in place of the row's own are found: a fault, and a listing."""
-    return all(troubles_of(program, row._replace(iptsim=wrong))[0] for wrong in ("`F4`", "`-A OUTPUT -p 99`"))
+ROWS = rows_of(read())
+THEMES = {(row.theme, row.form): row for row in reversed(ROWS)}
 
 
-def result_of(program, row, is_first):
-    """What isn't as the file says of a row, each with its line, and how many runs were made of it."""
-    found, runs = troubles_of(program, row)
-    if is_first and not found and not is_planted_found(program, row):
-        found = ["the planted answer was not found"]
-    return ["%s:%d: %s" % (DOCUMENT, row.number, text) for text in found], runs
+def name_of(row):
+    return f"line {row.number}: {row.given[:60]}"
 
 
-def malformed_taken(text):
-    """The malformed rows that are planted before the last row of the file and taken for a row."""
-    lines = text.split("\n")
-    taken = []
-    for column, wrong in MALFORMED:
-        cells = lines[-2].split("\t")
-        cells[COLUMNS.index(column)] = wrong
-        try:
-            rows_of("\n".join(lines[:-2] + ["\t".join(cells)] + lines[-2:]))
-            taken.append("%s: '%s' under %s is taken" % (DOCUMENT, wrong, column))
-        except Malformed:
-            pass
-    return taken
+@pytest.mark.parametrize("row", ROWS, ids=name_of)
+def test_row(row, iptsim):
+    assert troubles_of(iptsim, row) == []
 
 
-def main(program):
-    text = read()
-    try:
-        rows = rows_of(text)
-    except Malformed as trouble:
-        for line in str(trouble).split("\n"):
-            print("differences: " + line, file=sys.stderr)
-        return 1
-    groups = [(row.theme, row.form) for row in rows]
-    is_first = [group not in groups[:place] for place, group in enumerate(groups)]
-    with ThreadPoolExecutor(os.cpu_count()) as pool:
-        results = list(pool.map(result_of, [program] * len(rows), rows, is_first))
-    troubles = [trouble for found, _ in results for trouble in found] + malformed_taken(text)
-    for trouble in troubles:
-        print("differences: " + trouble, file=sys.stderr)
-    if troubles:
-        return 1
-    print("differences: %d runs were as expected, of %d rows" % (sum(runs for _, runs in results), len(rows)))
-    return 0
+@pytest.mark.parametrize("wrong", ["`F4`", "`-A OUTPUT -p 99`"])
+@pytest.mark.parametrize("row", THEMES.values(), ids=name_of)
+def test_planted(row, wrong, iptsim):
+    """A wrong answer in place of the row's own, a fault or a listing, is found."""
+    assert troubles_of(iptsim, row._replace(iptsim=wrong))
 
 
-if __name__ == "__main__":
-    if len(sys.argv) < 2 or not os.access(sys.argv[1], os.X_OK):
-        print("differences: call it as tests/run documents/differences PROGRAM, with a program that can be run", file=sys.stderr)
-        sys.exit(2)
-    sys.exit(main(os.path.abspath(sys.argv[1])))
+@pytest.mark.parametrize("column, wrong", MALFORMED)
+def test_malformed(column, wrong):
+    """A malformed row before the last one of the file is refused."""
+    lines = read().split("\n")
+    cells = lines[-2].split("\t")
+    cells[COLUMNS.index(column)] = wrong
+    with pytest.raises(Malformed):
+        rows_of("\n".join([*lines[:-2], "\t".join(cells), *lines[-2:]]))

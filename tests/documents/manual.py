@@ -1,35 +1,30 @@
-"""tests/run documents/manual PROGRAM [AUDIT]: compares the manual page docs/iptsim.1 with PROGRAM, which is iptsim; the page docs/iptaudit.1 with
-AUDIT, which is iptaudit, by its examples and options, and the number of steps that it says with the help; and the pages of the scripts for users
-by their examples and options.
+"""The manual pages beside what they describe: docs/iptsim.1 beside iptsim; docs/iptaudit.1 beside iptaudit, by its examples and options, and the number
+of steps that it says; and the pages of the scripts for users, by their examples and options.
 
 - The faults: for each code of the section FAULTS a row below has an input that brings it out of the program. Its code, its text and
   its status have to be those of the page, and the page has no other codes. M0, of memory that is refused, no input brings out: its
   text is compared with the stored output of crates/calls. That memory which is refused ends in M0 and status 4 is shown by
-  tests/programs/programs.
+  tests/memory/starved.
 - The limits: a session that comes up to each number of the section LIMITS is accepted, one more is refused. Of the rules that match
   one packet the number alone is compared: a case tries it, and here it would take longer than all else.
 - The examples: each command of the section EXAMPLES is run, and what it writes is compared with what the page shows.
 - The names: each key of the section PACKETS is known, and those that the section REPLIES has for `lines` are the lines that it prints.
 - The options: those of the synopsis, and of the description, are those that the program's own help names.
-- The form of all pages, by mandoc, which may not warn, and by man, where they are installed; and that each is of a command.
-
-It prints how many runs were as expected, and ends with 0; or it says what differs, and ends with 1. Without a program that can be run
-it ends with 2.
+- The form of all pages, by mandoc, which may not warn, and by man; and that each is of a command.
 """
-import glob
+
 import os
 import re
 import shutil
 import subprocess
-import sys
-import tempfile
+
+import pytest
 
 from tests import ROOT
-from tests.shared.rows import programs
+from tests.shared.followed import follow
 from tools.completing.table import read_commands
 
-# The scripts for users, by the names by which they are installed.
-SCRIPTS = {name: os.path.join(ROOT, "bin", name[len("iptsim-"):]) for name in read_commands(ROOT) if name.startswith("iptsim-")}
+DOCS = os.path.join(ROOT, "docs")
 SESSION, RESTORE = ["session"], ["restore"]
 RULE = "iptables -A INPUT "
 
@@ -113,7 +108,7 @@ class Page:
     """A manual page, by its sections, of a program with these subcommands."""
 
     def __init__(self, program, subcommands):
-        self.path = os.path.join(ROOT, "docs", program + ".1")
+        self.path = os.path.join(DOCS, program + ".1")
         self.program, self.subcommands = program, subcommands
         with open(self.path, encoding="utf-8") as file:
             text = file.read()
@@ -173,167 +168,125 @@ class Page:
         return {option for item in items for option in re.findall(r"Fl \\-(\S+)", item)}
 
 
-class Check:
-    """One of the programs, the number of its runs, and what differed. The examples may call all of them."""
-
-    def __init__(self, programs, name):
-        self.programs, self.program = programs, programs.get(name)
-        self.runs, self.troubles, self.answers = 0, [], {}
-
-    def differs(self, text, *values):
-        self.troubles.append(text % values)
-
-    def run(self, words, lines=()):
-        """The status, the output and the messages of a run. The same run isn't made twice."""
-        given = "".join(line + "\n" for line in lines).encode()
-        key = (tuple(words), given)
-        if key not in self.answers:
-            self.runs += 1
-            ended = subprocess.run([self.program] + words, input=given, stdout=subprocess.PIPE, stderr=subprocess.PIPE, timeout=300)
-            self.answers[key] = ended.returncode, ended.stdout.decode(), ended.stderr.decode()
-        return self.answers[key]
+# The subcommands of each program; the other pages are those of scripts.
+SUBCOMMANDS = {"iptsim": ("session", "restore"), "iptaudit": ("dead", "compare", "tests", "cover", "reach", "walk")}
+COMMANDS = read_commands(ROOT)
+PAGES = {name: Page(name, SUBCOMMANDS.get(name, ())) for name in COMMANDS}
+PAGE, SCRIPTS = PAGES["iptsim"], [name for name in COMMANDS if name not in SUBCOMMANDS]
+CODES = {code: (text, status) for code, text, status in PAGE.faults()}
 
 
-def check_faults(check, page):
-    on_page = {code: (text, status) for code, text, status in page.faults()}
-    if len(on_page) < len(page.faults()):
-        check.differs("a code stands twice on the page")
-    for code in on_page.keys() ^ ({row[0] for row in FAULTS} | {NO_MEMORY[0]}):
-        check.differs("%s stands %s", code, "on the page alone" if code in on_page else "in a row of this run, and not on the page")
-    for code, words, lines, number in FAULTS:
-        if code not in on_page:
-            continue
-        text, status = on_page[code]
-        got, due = check.run(words, lines), (status, "line %d: %s %s\n" % (number, code, text), "")
-        if got != due:
-            check.differs("by the page %s gives %s; the program gives %s", lines[-1][:60], due, got)
+def session(lines):
+    return "".join(line + "\n" for line in lines).encode()
+
+
+def test_codes():
+    """Each code stands once on the page, and in a row above."""
+    assert sorted(code for code, _, _ in PAGE.faults()) == sorted({row[0] for row in FAULTS} | {NO_MEMORY[0]})
+
+
+@pytest.mark.parametrize("code, words, lines, number", FAULTS, ids=[f"{row[0]}: {row[2][-1][:60]}" for row in FAULTS])
+def test_fault(code, words, lines, number, iptsim):
+    text, status = CODES[code]
+    ended = iptsim.run(words, input=session(lines))
+    assert (ended.returncode, ended.stdout.decode(), ended.stderr) == (status, f"line {number}: {code} {text}\n", b"")
+
+
+def test_no_memory():
     with open(os.path.join(ROOT, "crates", "calls", "stdout"), encoding="utf-8") as file:
         texts = {line.strip().split(": ")[1] for line in file if line.startswith("NoMemory: ")}
-    check.runs += 1
-    if {(text, NO_MEMORY[1]) for text in texts} != {on_page.get(NO_MEMORY[0])}:
-        check.differs("by the page M0 is %s; it is %s with status %d", on_page.get(NO_MEMORY[0]), texts, NO_MEMORY[1])
+    assert {(text, NO_MEMORY[1]) for text in texts} == {CODES[NO_MEMORY[0]]}
 
 
-def check_limits(check, page):
-    limits = page.limits()
-    for name in limits.keys() ^ (LIMITS.keys() | NOT_TRIED.keys()):
-        check.differs("the limit '%s' stands %s", name, "on the page alone" if name in limits else "in this run alone")
-    for name in limits.keys() & LIMITS.keys():
-        count = limits[name]
-        status, written, _ = check.run(SESSION, LIMITS[name](count + 1))
-        if status == 0:
-            check.differs("%d %s are accepted", count + 1, name)
-        is_told_there = written.startswith("line %d: " % (count + 1))
-        if not is_told_there and check.run(SESSION, LIMITS[name](count))[0] != 0:
-            check.differs("%d %s are refused", count, name)
-    for name, count in NOT_TRIED.items():
-        if limits.get(name) != count:
-            check.differs("the limit '%s' is %s, and not %d", name, limits.get(name), count)
+def test_limits():
+    assert PAGE.limits().keys() == LIMITS.keys() | NOT_TRIED.keys()
+    assert {name: PAGE.limits()[name] for name in NOT_TRIED} == NOT_TRIED
 
 
-def check_examples(check, page):
-    with tempfile.TemporaryDirectory() as folder:
-        os.mkdir(os.path.join(folder, "bin"))
-        os.mkdir(os.path.join(folder, "files"))
-        for name, program in {**SCRIPTS, **check.programs}.items():
-            os.symlink(program, os.path.join(folder, "bin", name))
-        path = os.path.join(folder, "bin") + os.pathsep + os.environ["PATH"]
-        named = {name.upper(): program for name, program in check.programs.items()}
-        for command, lines in page.examples():
-            check.runs += 1
-            ended = subprocess.run(["bash", "-c", command], cwd=os.path.join(folder, "files"), env=dict(os.environ, PATH=path, **named),
-                                   stdin=subprocess.DEVNULL, stdout=subprocess.PIPE, stderr=subprocess.STDOUT, timeout=60)
-            due = "".join(line + "\n" for line in lines)
-            if ended.stdout.decode() != due:
-                check.differs("the example '%s' writes\n%sand the page shows\n%s", command, ended.stdout.decode(), due)
-    if not page.examples():
-        check.differs("the page of %s has no examples", page.program)
+@pytest.mark.parametrize("name", LIMITS)
+def test_limit(name, iptsim):
+    """So many are accepted, and one more is refused; where the last line is, those before it were accepted."""
+    count = PAGE.limits()[name]
+    more = iptsim.run(SESSION, input=session(LIMITS[name](count + 1)))
+    assert more.returncode != 0
+    if not more.stdout.startswith(b"line %d: " % (count + 1)):
+        assert iptsim.run(SESSION, input=session(LIMITS[name](count))).returncode == 0
 
 
-def check_names(check, page):
-    fields = [line.split(" ")[0] for line in check.run(SESSION, ["lines INPUT"])[1].splitlines()]
-    if page.fields() != fields:
-        check.differs("by the page `lines` prints %s; the program prints %s", page.fields(), fields)
-    for key in page.keys() ^ set(fields):
-        check.differs("%s is a key on the page alone, or a field without one there", key)
-    for key in page.keys():
-        if "F1" in check.run(SESSION, ["packet INPUT %s=" % key])[1]:
-            check.differs("the key %s isn't known to the program", key)
+EXAMPLES = [(name, number, command, lines) for name, page in PAGES.items() for number, (command, lines) in enumerate(page.examples())]
 
 
-def check_options(check, page):
-    forms = page.forms()
-    for name, options in forms.items():
-        helped = set(re.findall(r"--([a-z]+)", check.run(([name] if name else []) + ["--help"])[2]))
-        if options != helped:
-            check.differs("%s %s has the options %s; the synopsis has %s", page.program, name, sorted(helped), sorted(options))
-    commands = set(re.findall(r"^  ([a-z]+)  ", check.run(["--help"])[2], re.MULTILINE))
-    if commands != forms.keys() - {""}:
-        check.differs("the program has the subcommands %s; the synopsis has %s", sorted(commands), sorted(forms.keys() - {""}))
-    if page.described() != set().union(*forms.values()):
-        check.differs("the description has the options %s", sorted(page.described()))
+@pytest.fixture(scope="module")
+def written(shared_folder, iptsim, iptaudit):
+    """What the examples of each page write, one after another."""
+    return {name: list(follow([command for command, _ in page.examples()], os.path.join(shared_folder, name), iptsim=iptsim.path, iptaudit=iptaudit.path))
+            for name, page in PAGES.items()}
 
 
-def check_table(check, page):
+@pytest.mark.xdist_group("documents/manual")
+@pytest.mark.parametrize("name, number, command, lines", EXAMPLES, ids=[f"{row[0]}: {row[2][:60]}" for row in EXAMPLES])
+def test_example(name, number, command, lines, written):
+    assert written[name][number] == "".join(line + "\n" for line in lines)
+
+
+def test_lines(iptsim):
+    """The fields of a packet, as `lines` prints them."""
+    fields = [line.split(" ")[0] for line in iptsim.said(SESSION, b"lines INPUT\n").decode().splitlines()]
+    assert PAGE.fields() == fields and PAGE.keys() == set(fields)
+
+
+@pytest.mark.parametrize("key", sorted(PAGE.keys()))
+def test_key(key, iptsim):
+    assert b"F1" not in iptsim.said(SESSION, b"packet INPUT %s=\n" % key.encode())
+
+
+def help_of(program, *words):
+    return program.run([*words, "--help"]).stderr.decode()
+
+
+FORMS = [(name, subcommand) for name in SUBCOMMANDS for subcommand in ("", *SUBCOMMANDS[name])]
+
+
+@pytest.mark.parametrize("name, subcommand", FORMS, ids=[" ".join(row) for row in FORMS])
+def test_options(name, subcommand, request):
+    """The options of the synopsis are those of the help."""
+    program = request.getfixturevalue(name)
+    assert PAGES[name].forms()[subcommand] == set(re.findall(r"--([a-z]+)", help_of(program, *filter(None, [subcommand]))))
+
+
+@pytest.mark.parametrize("name", SUBCOMMANDS)
+def test_subcommands(name, request):
+    """The subcommands of the synopsis are those of the help, and each of its options is described."""
+    forms = PAGES[name].forms()
+    assert set(re.findall(r"(?m)^  ([a-z]+)  ", help_of(request.getfixturevalue(name)))) == forms.keys() - {""}
+    assert PAGES[name].described() == set().union(*forms.values())
+
+
+@pytest.mark.parametrize("name", SCRIPTS)
+def test_table(name):
     """The options of a script beside share/commands.tsv, which tests/packaging/completion compares with its help."""
-    due = {option.name[2:] for option in read_commands(ROOT)[page.program].forms[""].options}
-    on_page = set(re.findall(r"Fl \\-(\S+)", "\n".join(page.sections["SYNOPSIS"])))
-    if not due == on_page == page.described():
-        check.differs("%s has the options %s; the synopsis has %s, and the description %s", page.program, sorted(due), sorted(on_page), sorted(page.described()))
+    due = {option.name[2:] for option in COMMANDS[name].forms[""].options}
+    assert due == set(re.findall(r"Fl \\-(\S+)", "\n".join(PAGES[name].sections["SYNOPSIS"]))) == PAGES[name].described()
 
 
-def check_default(check, page):
+@pytest.mark.parametrize("subcommand", SUBCOMMANDS["iptaudit"])
+def test_steps(subcommand, iptaudit):
     """The number of steps that are taken where none is given."""
-    described = re.findall(r"([0-9,]+) where it isn't given", "\n".join(page.sections["DESCRIPTION"]))
-    for name in page.subcommands:
-        helped = re.findall(r"\[default: ([0-9]+)\]", check.run([name, "--help"])[2])
-        if helped != [number.replace(",", "") for number in described]:
-            check.differs("%s %s takes %s steps where no number is given; the page has %s", page.program, name, helped, described)
+    described = re.findall(r"([0-9,]+) where it isn't given", "\n".join(PAGES["iptaudit"].sections["DESCRIPTION"]))
+    assert re.findall(r"\[default: ([0-9]+)\]", help_of(iptaudit, subcommand)) == [number.replace(",", "") for number in described]
 
 
-def check_form(check, page):
-    """Asks mandoc and man about all pages, of which each is named after a command."""
-    paths = sorted(glob.glob(os.path.join(ROOT, "docs", "*.1")))
-    for path in paths:
-        if os.path.basename(path)[:-2] not in read_commands(ROOT):
-            check.differs("%s is the page of no command", os.path.basename(path))
-    for command in (["mandoc", "-T", "lint", "-W", "warning"], ["man", "--warnings", "-l"]):
-        if shutil.which(command[0]) is None:
-            print(f"manual: {command[0]} isn't asked about the pages, since it isn't there")
-            continue
-        check.runs += 1
-        ended = subprocess.run(command + paths, stdin=subprocess.DEVNULL, stdout=subprocess.PIPE, stderr=subprocess.PIPE,
-                               env=dict(os.environ, LC_ALL="C.UTF-8"))
-        said = ended.stderr + (ended.stdout if command[0] == "mandoc" else b"")
-        if said:
-            check.differs("%s says of the pages:\n%s", " ".join(command), said.decode(errors="replace"))
+def test_pages():
+    """Each page is that of a command, and has examples."""
+    assert sorted(name for name in os.listdir(DOCS) if name.endswith(".1")) == sorted(f"{name}.1" for name in PAGES)
+    assert [name for name, page in PAGES.items() if not page.examples()] == []
 
 
-# The subcommands of each program, and what is asked about its page.
-PAGES = {
-    "iptsim": (("session", "restore"), (check_faults, check_limits, check_examples, check_names, check_options, check_form)),
-    "iptaudit": (("dead", "compare", "tests", "cover", "reach", "walk"), (check_examples, check_options, check_default)),
-}
-OF_SCRIPTS = ((), (check_table, check_examples))
-
-
-def main(programs):
-    troubles = []
-    for name in [*programs, *SCRIPTS]:
-        subcommands, parts = PAGES.get(name, OF_SCRIPTS)
-        if not os.path.exists(os.path.join(ROOT, "docs", name + ".1")):
-            troubles.append(f"{name} has no page")
-            continue
-        check, page = Check(programs, name), Page(name, subcommands)
-        for part in parts:
-            part(check, page)
-        troubles += check.troubles
-        if not check.troubles:
-            print("manual: %d runs of %s were as expected" % (check.runs, name))
-    for trouble in troubles:
-        print("manual: " + trouble, file=sys.stderr)
-    return 1 if troubles else 0
-
-
-if __name__ == "__main__":
-    sys.exit(main(dict(zip(("iptsim", "iptaudit"), map(os.path.abspath, programs("documents/manual PROGRAM [AUDIT]"))))))
+@pytest.mark.parametrize("command", [["mandoc", "-T", "lint", "-W", "warning"], ["man", "--warnings", "-l"]], ids=lambda command: command[0])
+def test_form(command):
+    if shutil.which(command[0]) is None:
+        pytest.skip(f"{command[0]} isn't there")
+    paths = [os.path.join(DOCS, name + ".1") for name in PAGES]
+    ended = subprocess.run(command + paths, stdin=subprocess.DEVNULL, stdout=subprocess.PIPE, stderr=subprocess.PIPE,
+                           env=dict(os.environ, LC_ALL="C.UTF-8"), check=False)
+    assert ended.stderr + (ended.stdout if command[0] == "mandoc" else b"") == b""

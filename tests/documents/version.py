@@ -1,18 +1,17 @@
-"""tests/run documents/version PROGRAM [AUDIT]: whether all that has a version has that of the file VERSION: the newest section of CHANGELOG.md,
-each manual page in docs/, and what the programs print by `--version` and `-V`, to standard output with status 0. tests/packaging/release compares
-the names of what is packed, and what a program prints that is.
-
-It ends with status 1 where a run isn't as expected.
+"""All that has a version has that of the file VERSION: the newest section of CHANGELOG.md, each manual page in docs/, and what the programs print by
+`--version` and `-V`, to standard output. tests/packaging/release compares the names of what is packed, and what a program prints that is.
 """
 
-import glob
 import os
 import re
-import subprocess
+
+import pytest
 
 from tests import ROOT
-from tests.shared.rows import Rows, programs
+from tests.shared.rows import Row
 from tools.packing.programs import UNRELEASED
+
+PAGES = sorted(name for name in os.listdir(os.path.join(ROOT, "docs")) if name.endswith(".1"))
 
 
 def text(*place):
@@ -20,31 +19,25 @@ def text(*place):
         return file.read()
 
 
-def check_texts(runs, version):
-    runs.compared("VERSION is three numbers on a line", (0, b"yes"), (0, b"yes" if re.fullmatch(r"\d+\.\d+\.\d+\n", text("VERSION")) else b"no"))
-    newest = re.search(r"^## (\S+)$", text("CHANGELOG.md"), re.MULTILINE)
-    runs.compared("the newest section of CHANGELOG.md", (0, version.encode()), (0, newest[1].encode() if newest else b""))
-    for path in sorted(glob.glob(os.path.join(ROOT, "docs", "*.1"))):
-        name = os.path.basename(path)
-        # By the macros of mdoc or of man.
-        found = re.search(r"^(?:\.Os |\.TH .*\")iptsim (\S+?)\"?$", text("docs", name), re.MULTILINE)
-        runs.compared(f"docs/{name}", (0, version.encode()), (0, found[1].encode() if found else b""))
+VERSION = text("VERSION").strip()
 
 
-def check_program(runs, name, path, version):
-    for word in ("--version", "-V"):
-        ended = subprocess.run([path, word], stdin=subprocess.DEVNULL, stdout=subprocess.PIPE, stderr=subprocess.PIPE, check=False)
-        due = f"{name} {version} ({UNRELEASED})\n".encode()
-        runs.compared(f"{name} {word}", (0, due, b""), (ended.returncode, ended.stdout, ended.stderr))
+def test_version():
+    """Three numbers on a line."""
+    assert re.fullmatch(r"\d+\.\d+\.\d+\n", text("VERSION"))
 
 
-def main(*paths):
-    runs = Rows("version", paths[0])
-    version = text("VERSION").strip()
-    check_texts(runs, version)
-    for name, path in zip(("iptsim", "iptaudit"), paths):
-        check_program(runs, name, os.path.abspath(path), version)
-    runs.end()
+def test_changes():
+    assert re.search(r"(?m)^## (\S+)$", text("CHANGELOG.md"))[1] == VERSION
 
 
-main(*programs("documents/version PROGRAM [AUDIT]"))
+@pytest.mark.parametrize("page", PAGES)
+def test_page(page):
+    """By the macros of mdoc or of man."""
+    assert re.search(r'(?m)^(?:\.Os |\.TH .*")iptsim (\S+?)"?$', text("docs", page))[1] == VERSION
+
+
+@pytest.mark.parametrize("word", ["--version", "-V"])
+@pytest.mark.parametrize("name", ["iptsim", "iptaudit"])
+def test_program(name, word, request):
+    request.getfixturevalue(name).check(Row(name, [word], {}, f"{name} {VERSION} ({UNRELEASED})\n".encode(), 0))

@@ -1,5 +1,5 @@
 """Rules and packets of some kinds, drawn with a fixed seed: what `tests/costs/costs` gives to the program. Called as a program,
-`workloads.py RULES KIND..` prints so many rules of each kind and their packets, which the program `bench` reads.
+`python3 -m tests.drawn.workloads RULES KIND..` prints so many rules of each kind and their packets, which the program `bench` reads.
 
 - generated: two prefixes or hosts, TCP or UDP, and mostly a port or some in a row, all drawn at random;
 - distinct: no two rules share a packet: each has two prefixes and two ports of its own, in an order that jumps about;

@@ -1,8 +1,8 @@
-"""tests/run memory/faults PROGRAM [--all | --none] [--jobs N] [WORD..]: plays the cases of crates/cases/data on the program with each allocation
-of a case refused in turn, one in each run, and compares what it writes and its status with the plain model of tests/model, to the byte.
+"""The cases of crates/cases/data on iptsim with each allocation of a case refused in turn, one in each run: what it writes and its status beside the
+plain model of tests/model, to the byte.
 
-PROGRAM is the proved iptsim, into which tests/memory/refusing/refuse.c is preloaded; or one that `tools/refusing iptsim 123456789 PROGRAM session` built
-without a proof, in which the number stands, and each run has another in its place.
+tests/memory/refusing/refuse.c is preloaded into the program; or it is one that `tools/refusing iptsim 123456789 PROGRAM session` built without a proof,
+in which the number stands, and each run has another in its place.
 
 A case is played as the lines of one session; restores with their options stand among them. From the program's output comes the line
 that was refused memory, `line K: M0 no memory`; the model is told to refuse memory in line K, and says what all lines are answered by
@@ -18,26 +18,26 @@ and of the case as it stands in its file the model gives the output and the stat
 Lines that promise to take no memory but that of their words take it as often as a line of as many words and bytes that asks for
 nothing: in a small table and in a larger one. Blank lines, comments and lines that are too long take none.
 
-Without --all it plays cases in which each kind of line, command, option, match, target and fault comes twice at least, if it comes
-in two cases of 200 lines at most: the same each time. With --all it plays all; of a longer case it doesn't refuse each allocation, but
-one of so many that some 40 runs are made, and of its table it shows what `-S` lists. With --none it plays all, and refuses no allocation. With words it plays the cases whose
-file or name has them. It doesn't refuse two allocations in one run, nor those of words that name no task, which tests/memory/starved does.
-
-It ends with 1 at the first run that isn't as is due, and says which.
+The gate plays cases in which each kind of line, command, option, match, target and fault comes twice at least, if it comes
+in two cases of 200 lines at most: the same each time. With `--refuse all` all are played; of a longer case it isn't each allocation that is refused, but
+one of so many that some 40 runs are made, and of its table is shown what `-S` lists. With `--refuse none` all are played, and no allocation is refused.
+`--cases WORD` plays the cases whose file or name has the word. It doesn't refuse two allocations in one run, nor those of words that name no task, which tests/memory/starved does.
 """
 
-import argparse
 import collections
-import concurrent.futures
+import functools
+import os
 import re
-import sys
+
+import pytest
 
 from tests.memory.refusing.program import RefusingProgram
 from tests.model.session import answer
 from tests.model.words import lines_of
-from tests.shared.case_files import all_cases
+from tests.shared.case_files import DATA, all_cases
 from tests.shared.played import Play, Told, chosen, model_differs, plays_of, size_of, statements
 
+PARTS = 16
 # Which cases are chosen: each kind of line comes in so many, of so many bytes and of LONG lines at most.
 LEAST, MOST, LONG = 2, 25_000, 200
 # A case of so many lines has each allocation refused. A longer one is played so often, and one that is longer than LONG so often.
@@ -104,8 +104,8 @@ iptables-save
 """, None)
 
 
-class Difference(Exception):
-    """A run that isn't as is due."""
+# Ends a test whose run isn't as is due, and says how, without the way to it.
+differs = functools.partial(pytest.fail, pytrace=False)
 
 
 class SessionLines:
@@ -201,7 +201,7 @@ class Refusals:
 
     def compare(self, number, came, line):
         if came != self.due(line):
-            raise Difference(self.told(number, came, self.due(line)))
+            differs(self.told(number, came, self.due(line)))
 
     def told(self, number, came, due):
         refused = f"allocation {number} refused" if number else "no allocation refused"
@@ -232,8 +232,8 @@ class Refusals:
         else:
             self.without, self.unrefused = self.without + 1, self.unrefused + 1
             if self.last is not None and not self.played.may_be_over():
-                raise Difference(f"faults: {self.name}: allocation {number} refused, {' '.join(self.played.words)}: a line takes memory, and goes "
-                                 f"on without it: line {self.last} or a later one")
+                differs(f"faults: {self.name}: allocation {number} refused, {' '.join(self.played.words)}: a line takes memory, and goes "
+                        f"on without it: line {self.last} or a later one")
 
     def step(self):
         """Every how-manieth allocation is refused."""
@@ -272,26 +272,27 @@ class Refusals:
                 self.first = number
             number += step
         if not self.refused and any(self.played.due(None, number) != self.due(None) for number in range(1, len(self.played.lines) + 1)):
-            raise Difference(f"faults: {self.name}: no allocation was refused")
+            differs(f"faults: {self.name}: no allocation was refused")
 
 
 def refuse_all(path, plays):
-    """The runs of some cases: how many there were, how many lines were refused, how many runs did without; and the first difference.
-    The program's start takes memory as often for all cases with the same words that load no file: of all but the first its allocations
-    are left out."""
-    program, refused, without, firsts = RefusingProgram(path), 0, 0, {}
+    """The runs of some cases. The program's start takes memory as often for all cases with the same words that load no file: of all but the first its
+    allocations are left out."""
+    program, firsts = RefusingProgram(path), {}
     for play in plays:
         runs = Refusals(program, play, firsts.get(play.words, 1) if play.file is None else 1)
-        try:
-            if firsts and play.file is None and play.words not in firsts:
-                runs.leave_start_out()
-            runs.all()
-        except Difference as difference:
-            return program.runs, refused, without, str(difference)
+        if firsts and play.file is None and play.words not in firsts:
+            runs.leave_start_out()
+        runs.all()
         if play.file is None:
             firsts[play.words] = runs.first
-        refused, without = refused + sum(runs.refused.values()), without + runs.without - runs.unrefused
-    return program.runs, refused, without, None
+
+
+def play_all(path, plays):
+    """The same without a refusal."""
+    program = RefusingProgram(path)
+    for play in plays:
+        Refusals(program, play, 1).none()
 
 
 class Frugal:
@@ -332,91 +333,53 @@ class Frugal:
             refused = self.refused_line(self.first + count, line)
             if refused is not None and refused > self.place:
                 return count
-        raise Difference(f"faults: after {self.rules} rules `{line.decode()}` takes memory {MOST_OF_A_LINE} times and more")
+        differs(f"faults: after {self.rules} rules `{line.decode()}` takes memory {MOST_OF_A_LINE} times and more")
 
     def compare(self, line, other):
         taken, due = self.count(line), self.count(other)
         if taken != due or not due:
-            raise Difference(f"faults: after {self.rules} rules `{line.decode()}` takes memory {taken} times, and `{other.decode()}` {due} times")
+            differs(f"faults: after {self.rules} rules `{line.decode()}` takes memory {taken} times, and `{other.decode()}` {due} times")
 
     def expect_none(self, line):
         taken = self.count(line)
         if taken:
-            raise Difference(f"faults: after {self.rules} rules a line of {len(line)} bytes takes memory {taken} times, and needs none: {line[:20]!r}")
+            differs(f"faults: after {self.rules} rules a line of {len(line)} bytes takes memory {taken} times, and needs none: {line[:20]!r}")
 
 
-def expect_frugal(path):
-    """Compares how often the frugal lines take memory. How many runs that took."""
-    program = RefusingProgram(path)
-    for rules in RULES_BEFORE:
-        frugal = Frugal(program, rules)
-        for line, other in FRUGAL:
-            frugal.compare(line, other)
-        for line in TAKE_NONE:
-            frugal.expect_none(line)
-    return program.runs
-
-
-def play_all(path, plays):
-    """The same without a refusal."""
-    program = RefusingProgram(path)
-    for play in plays:
-        try:
-            Refusals(program, play, 1).none()
-        except Difference as difference:
-            return program.runs, 0, 0, str(difference)
-    return program.runs, 0, 0, None
-
-
-def plays(words, takes_all):
-    """The cases that are to be played, each of which the model answers as its file says."""
-    lines, size = (None, None) if takes_all or words else (LONG, MOST)
+@functools.lru_cache(maxsize=None)
+def plays(words, refuse):
+    """The cases that are to be played."""
+    lines, size = (LONG, MOST) if refuse == "some" and not words else (None, None)
     cases = [case for case in all_cases(words, lines) if size is None or size_of(case) <= size]
-    for case in cases:
-        run = model_differs(case)
-        if run:
-            raise Difference(f"faults: the model doesn't answer the case as its file says: {case.file}: {case.name}, {run.kind}")
     found = [play for case in cases for play in plays_of(case)]
     more = [COPIED] if not words or any(word in COPIED.name for word in words) else []
-    return more + (found if takes_all or words else chosen(found, LEAST))
+    return more + (chosen(found, LEAST) if refuse == "some" and not words else found)
 
 
-def side_by_side(play, program, taken, jobs):
-    """What came of the cases, which are played in so many processes."""
-    if jobs == 1:
-        yield play(program, taken)
-        return
-    with concurrent.futures.ProcessPoolExecutor(jobs) as pool:
-        yield from pool.map(play, [program] * jobs, [taken[at::jobs] for at in range(jobs)])
+@pytest.mark.parametrize("file", sorted(name for name in os.listdir(DATA) if name.endswith(".cases")))
+def test_model(file):
+    """The model answers the cases as their file says."""
+    assert [(case.name, run.kind) for case in all_cases([file]) for run in [model_differs(case)] if run] == []
 
 
-def run_all(given):
-    """Plays the cases, side by side, and says how it went."""
-    taken, total = plays(given.words, given.all or given.none), [0, 0, 0]
-    if not given.words and not given.none:
-        total[0] = expect_frugal(given.program)
-    play = play_all if given.none else refuse_all
-    for *counts, trouble in side_by_side(play, given.program, taken, given.jobs):
-        if trouble:
-            raise Difference(trouble)
-        total = [old + new for old, new in zip(total, counts)]
-    return (f"faults: {len(taken)} cases in {total[0]} runs: {total[1]} times a line was refused memory, and {total[2]} runs did without "
-            "it; all was as is due")
+@pytest.mark.parametrize("part", range(PARTS))
+def test_refused(part, iptsim, cases, refuse):
+    (play_all if refuse == "none" else refuse_all)(iptsim.path, plays(cases, refuse)[part::PARTS])
 
 
-def main():
-    reader = argparse.ArgumentParser(prog="faults", usage=__doc__, add_help=False)
-    reader.add_argument("program")
-    reader.add_argument("words", nargs="*")
-    reader.add_argument("--all", action="store_true")
-    reader.add_argument("--none", action="store_true")
-    reader.add_argument("--jobs", type=int, default=1)
-    try:
-        print(run_all(reader.parse_intermixed_args()))
-        return 0
-    except Difference as difference:
-        print(difference, file=sys.stderr)
-        return 1
+@pytest.mark.parametrize("rules", RULES_BEFORE)
+@pytest.mark.parametrize("lines", [*FRUGAL, *TAKE_NONE], ids=lambda lines: repr(lines if isinstance(lines, bytes) else lines[0])[2:50])
+def test_frugal(lines, rules, iptsim, cases, refuse):
+    """How often a frugal line takes memory, in a small table and in a larger one."""
+    if cases or refuse == "none":
+        pytest.skip("cases alone are asked for")
+    frugal = frugal_after(iptsim.path, rules)
+    if isinstance(lines, bytes):
+        frugal.expect_none(lines)
+    else:
+        frugal.compare(*lines)
 
 
-sys.exit(main())
+@functools.lru_cache(maxsize=None)
+def frugal_after(path, rules):
+    return Frugal(RefusingProgram(path), rules)

@@ -1,5 +1,5 @@
-"""tests/run model/plain session [--load FILE], or tests/run model/plain restore [--noflush] [--test] [--load FILE]: what the program answers,
-by a small and slow model of it.
+"""`python3 -m tests.model.plain session [--load FILE]`, or `.. restore [--noflush] [--test] [--load FILE]`: what the program answers, by a small and slow
+model of it.
 
 It reads standard input, and writes what `iptsim` has to write to standard output and of a fault of FILE, with its status. The model,
 in this folder, is written from the manuals and shares nothing with the program: tests/answers/compare compares the two. Where its words are
@@ -28,4 +28,5 @@ def main(words):
     return status
 
 
-sys.exit(main(sys.argv[1:]))
+if __name__ == "__main__":
+    sys.exit(main(sys.argv[1:]))

@@ -1,17 +1,15 @@
-"""tests/run options/extensions PROGRAM: compares what bin/fit knows of iptables with the program, and with docs/differences.tsv.
+"""What bin/fit knows of iptables, beside the program and docs/differences.tsv.
 
 - The table of commands/extensions.py says of each match, target and option whether the program knows it: it is asked.
 - bin/fit is given each rule of the file that has something to write instead: what it makes of the rule is listed like that, or the rule is
   among those that bin/fit doesn't make to fit.
-
-It ends with status 1 where something isn't as expected, and says what differs.
 """
 
-import sys
+import pytest
 
 from commands.extensions import EXTENSIONS, OTHER_NAMES, is_known
 from tests.shared import differences
-from tests.shared.rows import Rows
+from tests.shared.rows import same
 
 FILES = {"S": b"ssh 22/tcp\nhttp 80/tcp\n",
          "P": b"ip 0\nipencap 4\nipv6 41\nipip 94\npim 103\nisis 124\nmobility-header 135\n"}
@@ -32,18 +30,21 @@ def asked(row):
             yield b" ".join([before, name, *[b"x"] * len(option.values)]), option.place == "=" and name not in OTHER_NAMES
 
 
-def table_rows(rows):
-    """The table of extensions beside the program. A word that isn't known has P1, P7 or T11; QUEUE, which is P3, isn't either."""
-    due = [each for row in EXTENSIONS if row.kind != "command" for each in asked(row)]
-    session = b"".join(b"iptables -A FORWARD %s\n" % words for words, _ in due)
-    written = rows.of_program(["session"], session)
-    faults = {int(words[1][:-1]): words[2] for words in (line.split() for line in written.splitlines())}
-    texts = [b"", b""]
-    for number, (words, known) in enumerate(due, 1):
-        fault = faults.get(number, b"")
-        came = fault != b"P1" if b"--" in words or words[:2] == b" -" else fault not in (b"P3", b"P7", b"T11")
-        texts = [text + b"%s: %s\n" % (words, b"known" if each else b"unknown") for text, each in zip(texts, (known, came))]
-    rows.compared("the table of extensions", (0, texts[0]), (0, texts[1]))
+KNOWN = [each for row in EXTENSIONS if row.kind != "command" for each in asked(row)]
+
+
+@pytest.fixture(scope="module")
+def faults(iptsim):
+    """The faults of the session of all these rules, by the numbers of lines."""
+    session = b"".join(b"iptables -A FORWARD %s\n" % words for words, _ in KNOWN)
+    return {int(words[1][:-1]): words[2] for words in (line.split() for line in iptsim.said(["session"], session).splitlines())}
+
+
+@pytest.mark.parametrize("number, words, known", [(number, *row) for number, row in enumerate(KNOWN, 1)], ids=[words.decode() for words, _ in KNOWN])
+def test_table(number, words, known, faults):
+    """A word that isn't known has P1, P7 or T11; QUEUE, which is P3, isn't either."""
+    fault = faults.get(number, b"")
+    assert known == (fault != b"P1" if b"--" in words or words[:2] == b" -" else fault not in (b"P3", b"P7", b"T11"))
 
 
 # What docs/differences.tsv says that iptables takes and bin/fit doesn't: the beginnings of its rows.
@@ -56,39 +57,32 @@ UNFIT = (
 ASSUMED_IN_FILE = ("-j QUEUE", "-j NFQUEUE")
 
 
-def fit(rows, lines):
-    return rows.run(["--services", "S", "--protocols", "P", "d"], {"d": dump(lines), **FILES})
+def line(entry):
+    return differences.session_line(entry)[len("iptables "):].encode()
 
 
-def difference_rows(rows):
-    """What iptables takes, as docs/differences.tsv has it: what comes of it is listed as iptables lists it, or it doesn't fit."""
-    def line(entry):
-        return differences.session_line(entry)[len("iptables "):].encode()
-
-    given = [row for row in differences.rows_of(differences.read()) if row.form == "rule" and row.instead and len(row.entries("given")) == 1]
-    given = [row for row in given if not row.entries("given")[0].startswith(ASSUMED_IN_FILE)]
-    unfit = [row for row in given if row.entries("given")[0].startswith(UNFIT)]
-    fits = [row for row in given if row not in unfit]
-    taken = fit(rows, [line(row.entries("given")[0]) for row in fits])
-    listed = [rows.of_program(["restore"], data)
-              for data in (dump(line(entry) for row in fits for entry in row.entries("instead")), taken.stdout)]
-    rows.compared("what iptables lists", (0, listed[0]), (taken.returncode, listed[1]))
-    refused = fit(rows, [line(row.entries("given")[0]) for row in unfit])
-    numbers = b"".join(text.split(b":")[2] + b"\n" for text in refused.stderr.splitlines())
-    due = b"".join(b"%d\n" % number for number in range(2, 2 + len(unfit)))
-    rows.compared("what doesn't fit", (1, b"", due), (refused.returncode, refused.stdout, numbers))
-    rows.compared(f"{len(fits)} rows, of which more than 100 are to fit", (True,), (len(fits) > 100,))
+# What iptables takes, as docs/differences.tsv has it.
+GIVEN = [row for row in differences.rows_of(differences.read()) if row.form == "rule" and row.instead and len(row.entries("given")) == 1]
+GIVEN = [row for row in GIVEN if not row.entries("given")[0].startswith(ASSUMED_IN_FILE)]
+FITS = [row for row in GIVEN if not row.entries("given")[0].startswith(UNFIT)]
 
 
-def main(program):
-    rows = Rows("extensions", program, "fit")
-    table_rows(rows)
-    try:
-        difference_rows(rows)
-    except differences.Malformed as trouble:
-        sys.exit(f"extensions: {trouble}")
-    rows.end()
+def fit(command, rows):
+    """bin/fit on the rules of some rows."""
+    data = dump(line(row.entries("given")[0]) for row in rows)
+    return command("fit").run(["--services", "S", "--protocols", "P", "d"], {"d": data, **FILES})
 
 
-if __name__ == "__main__":
-    main(sys.argv[1])
+def test_rules_that_fit(command, iptsim):
+    """What comes of them is listed as iptables lists it."""
+    assert len(FITS) > 100
+    taken = fit(command, FITS)
+    due, came = (iptsim.said(["restore"], data) for data in (dump(line(entry) for row in FITS for entry in row.entries("instead")), taken.stdout))
+    same((0, due), (taken.returncode, came))
+
+
+def test_rules_that_do_not_fit(command):
+    unfit = [row for row in GIVEN if row not in FITS]
+    refused = fit(command, unfit)
+    numbers = [int(text.split(b":")[2]) for text in refused.stderr.splitlines()]
+    assert (refused.returncode, refused.stdout, numbers) == (1, b"", list(range(2, 2 + len(unfit))))

@@ -1,29 +1,29 @@
-"""tests/run options/opposites: tries the options of which the table says that `!` is the opposite, beside the kernel.
+"""The options of which the table says that `!` is the opposite, beside the kernel.
 
 For each of them there are two rules that count, one with the option and one with `!` before it, where packets go out and where they come in: of
 tcp, udp, icmp and another protocol, later fragments, untracked ones, invalid ones, those of a connection, and an answer of the kernel itself.
 Exactly one of the two rules has to count each. Of an option of which the table says that it always holds it has to be the first. For some of
 which the table says that `!` isn't their opposite, some packet has to be counted by neither, or the packets show too little.
 
-It makes a network namespace of its own, and its packets don't leave that. An option that iptables or the kernel doesn't have, and one before
-which iptables takes no `!`, are passed over. Where the run isn't root's, or `unshare`, `ip` or iptables-legacy aren't there or can't be used,
-it passes everything over, and says so. It ends with status 1 where something isn't as expected, and says what differs.
+They are tried in a network namespace of their own, and its packets don't leave that. An option that iptables or the kernel doesn't have, and one
+before which iptables takes no `!`, are skipped. `python3 -m tests.options.opposites`, in the namespace, prints what came of all as JSON.
 """
 
+import json
 import os
 import shutil
 import subprocess
 import sys
 import time
 
+import pytest
+
 from commands.extensions import MATCHES
 from tests import ROOT
 from tests.options.parts.packets import HERE, KINDS, MARK, UNTRACKED, established
 from tests.options.parts.values import BEFORE_OPTION, value, words_before
-from tests.shared.rows import Rows
 
 PATH = os.environ.get("PATH", "") + ":/usr/sbin:/sbin"
-INSIDE = "inside"
 # The longest that a packet may take to be counted, in seconds.
 PATIENCE = 2
 # What an option takes to be asked at all: words behind it.
@@ -101,48 +101,30 @@ def chains_of(match, option, kinds):
     return None if plain else ()
 
 
-def tried(rows, match, option, chains, is_opposed):
-    """Sends a packet of each kind past the rules of an option."""
-    name = f"{match.name.decode()} {option.names[0].decode()}"
-    always = option.names[0] in match.always
-    shown = False
+def tried(match, option, chains):
+    """Sends a packet of each kind past the rules of an option: how often these counted it, in each chain; None where it didn't come as it is meant."""
     established()
     for number, kind in enumerate(KINDS):
         found = counted(kind, chains, number)
-        if found is None:
-            rows.compared(f"{name}: {kind.name}", (0, b"a packet of this kind"), (0, b"none, or several"))
-            continue
-        for chain in chains:
-            came = tuple(found[chain, rule] for rule in ("all", "plain", "inverted"))
-            if is_opposed:
-                due = {(0, 0, 0), (1, 1, 0)} if always else {(0, 0, 0), (1, 1, 0), (1, 0, 1)}
-                said = "the option counts %d and ! counts %d of %d in %s" % (*came[1:], came[0], chain)
-                rows.compared(f"{name}: {kind.name}", (0, b"one of both"), (0, b"one of both" if came in due else said.encode()))
-            shown = shown or came == (1, 0, 0)
-    if not is_opposed:
-        rows.compared(f"{name}: neither form", (0, b"of some packet"), (0, b"of some packet" if shown else b"of no packet"))
+        yield [kind.name, found and {chain: [found[chain, rule] for rule in ("all", "plain", "inverted")] for chain in chains}]
 
 
-def inside(program):
-    """Tries each option, in the namespace."""
+# The options that are tried, each with whether `!` is the opposite.
+OPTIONS = {(match.name.decode(), option.names[0].decode()): (match, option, option.place == "+" and option.names[0] not in match.unopposed)
+           for match in MATCHES.values() for option in match.options}
+OPTIONS = {key: row for key, row in OPTIONS.items() if row[2] or key in UNOPPOSED}
+
+
+def inside():
+    """Tries each option, in the namespace: what came of each, and why nothing did."""
     called("ip", ["link", "set", "lo", "up"])
     if shutil.which("ipset", path=PATH):
         called("ipset", ["create", "tried", "hash:ip"])
         called("ipset", ["add", "tried", HERE])
-    rows, absent, plain, count = Rows("opposites", program), [], [], 0
-    for match in MATCHES.values():
-        for option in match.options:
-            key = match.name.decode(), option.names[0].decode()
-            is_opposed = option.place == "+" and option.names[0] not in match.unopposed
-            if not is_opposed and key not in UNOPPOSED:
-                continue
-            chains = chains_of(match, option, KINDS)
-            (absent if chains == () else plain if chains is None else []).append(" ".join(key))
-            if chains:
-                count += 1
-                tried(rows, match, option, chains, is_opposed)
-    print(f"opposites: {count} options were tried; without ! alone: {', '.join(plain)}; passed over: {', '.join(absent)}")
-    rows.end()
+    for (match_name, name), (match, option, _) in OPTIONS.items():
+        chains = chains_of(match, option, KINDS)
+        why = "iptables takes no ! before it" if chains is None else "iptables or the kernel doesn't have it"
+        yield f"{match_name} {name}", list(tried(match, option, chains)) if chains else why
 
 
 def lacking():
@@ -157,17 +139,37 @@ def lacking():
     return "iptables-legacy can't be used in a namespace" if ended.returncode else None
 
 
-def main(program):
+@pytest.fixture(scope="module")
+def found():
+    """What came of each option, or why nothing did."""
     why = lacking()
     if why:
-        print(f"opposites: {why}, so the options aren't tried beside the kernel")
-        return
-    ended = subprocess.run([shutil.which("unshare", path=PATH), "--net", os.path.join(ROOT, "tests", "run"), "options/opposites", program, INSIDE], check=False)
-    sys.exit(ended.returncode)
+        pytest.skip(why)
+    call = [shutil.which("unshare", path=PATH), "--net", sys.executable, "-m", "tests.options.opposites"]
+    return json.loads(subprocess.run(call, cwd=ROOT, stdin=subprocess.DEVNULL, stdout=subprocess.PIPE, check=True).stdout)
+
+
+def trouble(counts, always, is_opposed):
+    """What is wrong with how often the rules of an option counted packets, by chains: one of both counts each."""
+    due = {(0, 0, 0), (1, 1, 0)} if always else {(0, 0, 0), (1, 1, 0), (1, 0, 1)}
+    for kind, chains in counts:
+        if chains is None:
+            yield f"no packet came as one of {kind}, or several"
+        elif is_opposed:
+            yield from (f"{kind} in {chain}: of {came[0]} the option counts {came[1]} and ! counts {came[2]}"
+                        for chain, came in chains.items() if tuple(came) not in due)
+    if not is_opposed and not any([1, 0, 0] in (chains or {}).values() for _, chains in counts):
+        yield "each packet meets one of both forms"
+
+
+@pytest.mark.xdist_group("options/opposites")
+@pytest.mark.parametrize("key", OPTIONS, ids=" ".join)
+def test_opposite(key, found):
+    counts, (match, option, is_opposed) = found[" ".join(key)], OPTIONS[key]
+    if isinstance(counts, str):
+        pytest.skip(f"{counts}: {' '.join(key)}")
+    assert list(trouble(counts, option.names[0] in match.always, is_opposed)) == []
 
 
 if __name__ == "__main__":
-    if sys.argv[2:] == [INSIDE]:
-        inside(sys.argv[1])
-    else:
-        main(sys.argv[1])
+    print(json.dumps(dict(inside())))

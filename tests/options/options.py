@@ -1,23 +1,21 @@
-"""tests/run options/options: compares the table of options with iptables 1.8.9, by iptables-translate and by its help.
+"""The table of options beside iptables 1.8.9, by iptables-translate and by its help.
 
 - Each option, under each of its names, takes as many words as the table says: a word behind these is one too many, and with one fewer the
   option lacks a value. Of an option that asks for a set, which isn't there, iptables reads no word behind its values.
 - Each option that the help of a match or a target names stands in the table, and each extension of Debian's package that a rule of the
   table filter may have.
-
-Without iptables-translate of this version it passes everything over, and says so. It ends with status 1 where something isn't as expected, and
-says what differs.
 """
 
+import functools
 import os
 import re
 import shutil
 import subprocess
-import sys
+
+import pytest
 
 from commands.extensions import EXTENSIONS
 from tests.options.parts.values import BEFORE_OPTION, words_before, value
-from tests.shared.rows import Rows
 
 PATH = os.environ.get("PATH", "") + ":/usr/sbin:/sbin"
 VERSION = "v1.8.9"
@@ -63,52 +61,45 @@ def options_of(extension):
                 yield [*before, *BEFORE_OPTION.get(option.names[0].decode(), [])], name.decode(), values
 
 
-def count_rows(rows):
-    """How many words each option takes."""
-    due = came = b""
-    for extension in EXTENSIONS:
-        if extension.kind != "command" and extension.name.decode() not in ABSENT:
-            for before, name, values in options_of(extension):
-                line = " ".join([*before, name, *values]).encode()
-                due += b"%s\n" % line
-                came += b"%s\n" % line if taken(before, name, values) else b""
-    rows.compared("the values of options", (0, due), (0, came))
+OPTIONS = [row for extension in EXTENSIONS if extension.kind != "command" and extension.name.decode() not in ABSENT for row in options_of(extension)]
+
+
+@pytest.fixture(autouse=True, scope="module")
+def iptables():
+    if not shutil.which("iptables-translate", path=PATH) or VERSION not in called("iptables", ["--version"]).stdout:
+        pytest.skip(f"iptables {VERSION} isn't there")
+
+
+@pytest.mark.parametrize("before, name, values", OPTIONS, ids=[" ".join([*before, name, *values]) for before, name, values in OPTIONS])
+def test_values(before, name, values):
+    """How many words an option takes."""
+    assert taken(before, name, values)
+
+
+@functools.lru_cache(maxsize=None)
+def common():
+    """The options of each rule, by the help."""
+    return set(re.findall(r"(?<![\w-])--[a-z][a-z0-9-]+", called("iptables", ["--help"]).stdout))
 
 
 def named_in_help(flag, name):
     """The options that the help of a match or target names, but for those of each rule; nothing where there is no help."""
-    common = set(re.findall(r"(?<![\w-])--[a-z][a-z0-9-]+", called("iptables", ["--help"]).stdout))
     ended = called("iptables", [flag, name, "--help"])
-    return None if ended.returncode else set(re.findall(r"(?<![\w-])--[a-z][a-z0-9-]+", ended.stdout)) - common
+    return None if ended.returncode else set(re.findall(r"(?<![\w-])--[a-z][a-z0-9-]+", ended.stdout)) - common()
 
 
-def help_rows(rows):
+def test_help():
     """What iptables has that the table hasn't."""
     known = {}
     for extension in EXTENSIONS:
         kind = "-m" if extension.kind == "match" else "-j"
         known[kind, extension.name.decode()] = {name.decode() for option in extension.options for name in option.names}
-    absent = b""
+    absent = []
     for file in sorted(os.listdir(LIBRARIES)):
         name = re.match(r"lib(?:xt|ipt)_(.*)\.so$", file)
         for kind in ("-m", "-j") if name and name[1] not in (*ELSEWHERE, *UNREAD) else ():
             found = named_in_help(kind, name[1])
             if found and (kind, name[1]) not in known:
-                absent += f"{kind} {name[1]}\n".encode()
-            for option in sorted((found or set()) - known.get((kind, name[1]), set()) - set(REFUSED)):
-                absent += f"{kind} {name[1]} {option}\n".encode()
-    rows.compared("what the table lacks", (0, b""), (0, absent))
-
-
-def main(program):
-    if not shutil.which("iptables-translate", path=PATH) or VERSION not in called("iptables", ["--version"]).stdout:
-        print(f"options: iptables {VERSION} isn't there, so the table of options isn't compared with it")
-        return
-    rows = Rows("options", program)
-    count_rows(rows)
-    help_rows(rows)
-    rows.end()
-
-
-if __name__ == "__main__":
-    main(sys.argv[1])
+                absent.append(f"{kind} {name[1]}")
+            absent += [f"{kind} {name[1]} {option}" for option in sorted((found or set()) - known.get((kind, name[1]), set()) - set(REFUSED))]
+    assert absent == []

@@ -1,27 +1,26 @@
-"""tests/run packaging/completion PROGRAM [AUDIT]: whether the completions of all commands are right. PROGRAM is iptsim, and AUDIT is iptaudit,
-whose help isn't asked where it isn't given.
+"""The completions of all commands.
 
 - The table of share/commands.tsv has the subcommands, the options and their values that the help of each command has.
 - The files in share/ are those that tools/completions writes of the table.
 - bash offers what stands in the rows below: with the file alone, and at a terminal with Debian's bash-completion, which has to find it.
 - zsh and fish take their files, and complete lines at a terminal, or as they are asked.
-
-A shell, or a package, that isn't there is passed over with a notice. It ends with status 1 where a run isn't as expected.
 """
 
 import os
 import re
 import shutil
 import subprocess
-import tempfile
+
+import pytest
 
 from tests import ROOT
 from tests.packaging.parts.terminals import typed
-from tests.shared.rows import Rows, programs
+from tests.shared.rows import script, write
 from tools.completing.table import read_commands
 
 SHARE = os.path.join(ROOT, "share")
 BASH = os.path.join(SHARE, "bash-completion", "completions")
+ZSH, FISH_FILES = os.path.join(SHARE, "zsh", "site-functions", "_iptsim"), os.path.join(SHARE, "fish", "vendor_completions.d")
 BASH_COMPLETION = "/usr/share/bash-completion/bash_completion"
 
 # The words of a line, and after `:` what bash offers for the last of them, among the files of the run. Words are parted by `|`. To bash
@@ -135,10 +134,6 @@ FISH = (
 )
 
 
-def pass_over(what):
-    print(f"completion: {what}")
-
-
 def run(command, given="", **more):
     return subprocess.run(command, input=given.encode(), stdout=subprocess.PIPE, stderr=subprocess.PIPE, check=False, **more)
 
@@ -157,110 +152,104 @@ def of_help(text):
     return sorted(commands) + sorted(name + (" .." if value else "") for name, value in options)
 
 
-def check_help(runs, commands, paths):
+COMMANDS = read_commands(ROOT)
+FORMS = [(name, subcommand) for name in COMMANDS for subcommand in COMMANDS[name].forms]
+
+
+@pytest.mark.parametrize("name, subcommand", FORMS, ids=[" ".join(row) for row in FORMS])
+def test_table(name, subcommand, request, command):
     """The table beside the help of each command, and of each subcommand."""
-    for name, path in paths.items():
-        for subcommand, form in commands[name].forms.items():
-            below = sorted(other for other in commands[name].forms if other) if not subcommand else []
-            options = sorted(option.name + (" .." if option.value else "") for option in form.options)
-            helped = of_help(help_of(path, *([subcommand] if subcommand else [])))
-            about = f"share/commands.tsv has of {name} {subcommand}, where its help is due"
-            runs.compared(about, (0, "\n".join(helped).encode()), (0, "\n".join(below + options).encode()))
+    asked = command(name[len("iptsim-"):]) if name.startswith("iptsim-") else request.getfixturevalue(name)
+    below = sorted(other for other in COMMANDS[name].forms if other) if not subcommand else []
+    options = sorted(option.name + (" .." if option.value else "") for option in COMMANDS[name].forms[subcommand].options)
+    assert below + options == of_help(help_of(asked.path, *filter(None, [subcommand])))
 
 
-def check_written(runs):
+def test_files():
     ended = run([os.path.join(ROOT, "tools", "completions"), "--check"])
-    runs.compared("tools/completions --check", (0, b""), (ended.returncode, ended.stdout))
+    assert (ended.returncode, ended.stdout) == (0, b"")
 
 
-def check_offers(runs, folder):
-    """The rows, asked of bash with the file alone."""
-    rows = [line.rpartition(":") for line in OFFERED.strip().splitlines()]
-    lines = "".join(words + "\n" for words, _, _ in rows)
-    ended = run(["bash", "--norc", "-c", ASK_BASH, "bash", os.path.join(BASH, "iptsim")], lines, cwd=folder)
-    came = ended.stdout.decode().split("\n")
-    runs.compared("bash takes the file", (0, b"", len(rows) + 1), (ended.returncode, ended.stderr, len(came)))
-    for (words, _, due), offers in zip(rows, came):
-        runs.compared(f"bash offers for '{words}'", (0, due.strip().encode()), (0, offers.encode()))
+@pytest.fixture(scope="module")
+def work(shared_folder):
+    """A folder with files, in its folder `files`, and with commands that print their words, in its folder `tools`."""
+    write(shared_folder, {f"files/{name}": b"" for name in ("gateway.rules", "gateway with blanks", "other", "gates/")})
+    os.mkdir(os.path.join(shared_folder, "tools"))
+    for name in COMMANDS:
+        script(os.path.join(shared_folder, "tools", name), "#!/bin/sh\nprintf '<%s>' \"$@\"\necho END\n")
+    return shared_folder
 
 
-def stand_ins(folder, names):
-    """Commands that print their words."""
-    os.mkdir(folder)
-    for name in names:
-        path = os.path.join(folder, name)
-        with open(path, "w", encoding="ascii") as file:
-            file.write("#!/bin/sh\nprintf '<%s>' \"$@\"\necho END\n")
-        os.chmod(path, 0o755)
+ROWS = [(words, due.strip()) for words, _, due in (line.rpartition(":") for line in OFFERED.strip().splitlines())]
 
 
-def check_typed(runs, shell, command, folder, tools, environment):
-    """Lines that are typed at a terminal."""
-    for keys, due in TYPED:
-        came = typed(command, dict(environment, PATH=f"{tools}:{os.environ['PATH']}", TERM="dumb"), folder, b"READY", keys.encode() + b"\n", b">END")
-        found = re.search(rb"((?:<[^<>]*>)+)END", came)
-        # zsh writes a value onto its option.
-        words = (found[1] if found else came).replace(b"=", b"><")
-        runs.compared(f"{shell} completes '{keys.strip()}'", (0, due.replace("=", "><").encode()), (0, words))
+@pytest.fixture(scope="module")
+def offers(work):
+    """What bash offers for each row, with the file alone."""
+    ended = run(["bash", "--norc", "-c", ASK_BASH, "bash", os.path.join(BASH, "iptsim")], "".join(words + "\n" for words, _ in ROWS),
+                cwd=os.path.join(work, "files"))
+    assert (ended.returncode, ended.stderr) == (0, b"")
+    return ended.stdout.decode().split("\n")
 
 
-def check_bash(runs, folder, tools, work):
+@pytest.mark.parametrize("number, words, due", [(number, *row) for number, row in enumerate(ROWS)], ids=[words for words, _ in ROWS])
+def test_offers(number, words, due, offers):
+    assert len(offers) == len(ROWS) + 1 and offers[number] == due
+
+
+def start_bash(work):
+    """How bash is started at a terminal, with what variables."""
     if not os.path.exists(BASH_COMPLETION):
-        pass_over("bash isn't asked at a terminal, since the package bash-completion isn't there")
-        return
-    start = os.path.join(work, "start.bash")
-    with open(start, "w", encoding="ascii") as file:
-        file.write(f"source {BASH_COMPLETION}\nbind 'set enable-bracketed-paste off'\nPS1='READY '\n")
-    check_typed(runs, "bash", ["bash", "--noprofile", "--rcfile", start, "-i"], folder, tools, {"XDG_DATA_DIRS": SHARE, "HOME": work})
+        pytest.skip("bash-completion isn't there")
+    write(work, {"start.bash": f"source {BASH_COMPLETION}\nbind 'set enable-bracketed-paste off'\nPS1='READY '\n".encode()})
+    return ["bash", "--noprofile", "--rcfile", os.path.join(work, "start.bash"), "-i"], {"XDG_DATA_DIRS": SHARE, "HOME": work}
 
 
-def check_zsh(runs, folder, tools, work):
-    file = os.path.join(SHARE, "zsh", "site-functions", "_iptsim")
-    if shutil.which("zsh") is None:
-        pass_over("zsh isn't asked, since it isn't there")
-        return
-    ended = run(["zsh", "-n", file])
-    runs.compared("zsh takes the file", (0, b""), (ended.returncode, ended.stderr))
-    with open(os.path.join(work, ".zshrc"), "w", encoding="utf-8") as start:
-        start.write(f"fpath=('{os.path.dirname(file)}' $fpath)\nautoload -Uz compinit && compinit -u -D\nunsetopt zle_bracketed_paste\nPS1='READY '\n")
-    check_typed(runs, "zsh", ["zsh", "-d", "-i"], folder, tools, {"ZDOTDIR": work, "HOME": work})
+def need(shell):
+    if shutil.which(shell) is None:
+        pytest.skip(f"{shell} isn't there")
 
 
-def check_fish(runs, folder, tools, work):
-    if shutil.which("fish") is None:
-        pass_over("fish isn't asked, since it isn't there")
-        return
-    environment = {"PATH": f"{tools}:{os.environ['PATH']}", "HOME": work, "XDG_DATA_DIRS": SHARE}
-    files = os.path.join(SHARE, "fish", "vendor_completions.d")
-    for name in sorted(os.listdir(files)):
-        ended = run(["fish", "--no-config", "-n", os.path.join(files, name)], env=environment)
-        runs.compared(f"fish takes {name}", (0, b""), (ended.returncode, ended.stderr))
-    for line, due in FISH:
-        ended = run(["fish", "-c", f"complete -C '{line}'"], cwd=folder, env=environment)
-        offers = sorted(offer.split("\t")[0] for offer in ended.stdout.decode().splitlines())
-        runs.compared(f"fish offers for '{line}'", (0, due.encode(), b""), (0, " ".join(offers).encode(), ended.stderr))
+def start_zsh(work):
+    need("zsh")
+    functions = os.path.dirname(ZSH)
+    write(work, {".zshrc": f"fpath=('{functions}' $fpath)\nautoload -Uz compinit && compinit -u -D\nunsetopt zle_bracketed_paste\nPS1='READY '\n".encode()})
+    return ["zsh", "-d", "-i"], {"ZDOTDIR": work, "HOME": work}
 
 
-def main(program, audit=None):
-    runs = Rows("completion", program)
-    commands = read_commands(ROOT)
-    paths = {name: os.path.join(ROOT, "bin", name[len("iptsim-"):]) for name in commands if name.startswith("iptsim-")}
-    paths["iptsim"] = os.path.abspath(program)
-    if audit:
-        paths["iptaudit"] = os.path.abspath(audit)
-    check_help(runs, commands, paths)
-    check_written(runs)
-    with tempfile.TemporaryDirectory() as work:
-        folder, tools = os.path.join(work, "files"), os.path.join(work, "tools")
-        os.makedirs(os.path.join(folder, "gates"))
-        for name in ("gateway.rules", "gateway with blanks", "other"):
-            with open(os.path.join(folder, name), "w", encoding="ascii"):
-                pass
-        stand_ins(tools, commands)
-        check_offers(runs, folder)
-        for check in (check_bash, check_zsh, check_fish):
-            check(runs, folder, tools, work)
-    runs.end()
+@pytest.mark.parametrize("start", [start_bash, start_zsh], ids=["bash", "zsh"])
+@pytest.mark.parametrize("keys, due", TYPED, ids=[keys.strip() for keys, _ in TYPED])
+def test_typed(keys, due, start, work):
+    """A line that is typed at a terminal."""
+    command, environment = start(work)
+    path = f"{os.path.join(work, 'tools')}:{os.environ['PATH']}"
+    came = typed(command, dict(environment, PATH=path, TERM="dumb"), os.path.join(work, "files"), b"READY", keys.encode() + b"\n", b">END")
+    found = re.search(rb"((?:<[^<>]*>)+)END", came)
+    # zsh writes a value onto its option.
+    assert (found[1] if found else came).decode().replace("=", "><") == due.replace("=", "><")
 
 
-main(*programs("packaging/completion PROGRAM [AUDIT]"))
+def test_zsh_takes_the_file():
+    need("zsh")
+    ended = run(["zsh", "-n", ZSH])
+    assert (ended.returncode, ended.stderr) == (0, b"")
+
+
+def fish(work, *words):
+    """What fish says, with these words."""
+    need("fish")
+    environment = {"PATH": f"{os.path.join(work, 'tools')}:{os.environ['PATH']}", "HOME": work, "XDG_DATA_DIRS": SHARE}
+    return run(["fish", *words], cwd=os.path.join(work, "files"), env=environment)
+
+
+@pytest.mark.parametrize("name", sorted(os.listdir(FISH_FILES)))
+def test_fish_takes(name, work):
+    ended = fish(work, "--no-config", "-n", os.path.join(FISH_FILES, name))
+    assert (ended.returncode, ended.stderr) == (0, b"")
+
+
+@pytest.mark.parametrize("line, due", FISH, ids=[line for line, _ in FISH])
+def test_fish_offers(line, due, work):
+    ended = fish(work, "-c", f"complete -C '{line}'")
+    offers = sorted(offer.split("\t")[0] for offer in ended.stdout.decode().splitlines())
+    assert (" ".join(offers), ended.stderr) == (due, b"")

@@ -1,8 +1,6 @@
-"""tests/run packaging/release PROGRAM [AUDIT]: runs tools/release in a copy of the sources, with stand-ins for rt, ldd and iptaudit, and compares
-what it writes, its status, and what it makes: the names of the files, their members, modes, owners, times and bytes. iptsim is PROGRAM behind a
-stand-in. PROGRAM is also packed with the machine's own ldd, where it needs the C library alone, and refused where it doesn't.
-
-It ends with status 1 where a run isn't as expected.
+"""tools/release in a copy of the sources, with stand-ins for rt, ldd and iptaudit: what it writes, its status, and what it makes: the names of the
+files, their members, modes, owners, times and bytes. iptsim is the program behind a stand-in. That is also packed with the machine's own ldd,
+where it needs the C library alone, and refused where it doesn't.
 """
 
 import hashlib
@@ -12,11 +10,13 @@ import re
 import shutil
 import subprocess
 import tarfile
-import tempfile
+
+import pytest
 
 from tests import ROOT
-from tests.shared.rows import Rows, programs
+from tests.shared.rows import same, script
 
+pytestmark = pytest.mark.xdist_group("packaging/release")
 # What is copied of the sources. Crates have their sources, so that the scripts that build programs find them.
 COPIED = ("VERSION", "CHANGELOG.md", "LICENSE", "crates.txt", ".gitignore", "bin", "commands", "docs", "examples", "share", "tests", "tools",
           "web", "crates")
@@ -66,8 +66,8 @@ class Copy:
     """The sources in a folder that lies below a folder of git's, and isn't git's itself, and the runs there."""
 
     def __init__(self, work, program):
-        self.runs, self.work = Rows("release", program), work
-        self.program, self.version = os.path.abspath(program), open(os.path.join(ROOT, "VERSION"), encoding="ascii").read().strip()
+        self.work, self.program = work, program
+        self.version = open(os.path.join(ROOT, "VERSION"), encoding="ascii").read().strip()
         self.top, self.tools, self.stand_ins = (os.path.join(work, *place) for place in (("above", "copy of it"), ("tools",), ("stand ins",)))
         for folder in (self.top, self.tools, self.stand_ins):
             os.makedirs(folder)
@@ -78,23 +78,15 @@ class Copy:
                 shutil.copytree(place, to, symlinks=True, ignore=shutil.ignore_patterns("out", "__pycache__"))
             else:
                 shutil.copy2(place, to)
-        self.script(self.tools, "rt", RT)
-        self.script(self.tools, "ldd", LDD)
+        script(os.path.join(self.tools, "rt"), RT)
+        script(os.path.join(self.tools, "ldd"), LDD)
         for name, text in (("iptsim", IPTSIM), ("iptaudit", IPTAUDIT)):
-            self.script(self.stand_ins, name, text.format(version=self.version, program=self.program))
+            script(os.path.join(self.stand_ins, name), text.format(version=self.version, program=self.program))
         self.page = os.path.join(self.stand_ins, "a page")
         with open(self.page, "w", encoding="utf-8") as file:
             file.write("<!doctype html>\n")
         self.environment = {name: value for name, value in os.environ.items() if name not in ("IPTSIM", "IPTAUDIT")}
         self.environment.update(PATH=f"{self.tools}:{os.environ['PATH']}", STAND_INS=self.stand_ins, IPTSIM_PAGE=self.page)
-
-    @staticmethod
-    def script(folder, name, text):
-        path = os.path.join(folder, name)
-        with open(path, "w", encoding="utf-8") as file:
-            file.write(text)
-        os.chmod(path, 0o755)
-        return path
 
     def run(self, *words, mask="022", **variables):
         """The status, the output and the messages, but those of the scripts that build."""
@@ -105,7 +97,7 @@ class Copy:
         return ended.returncode, ended.stdout, said
 
     def refused(self, about, messages, *words, status=1, **variables):
-        self.runs.compared(about, (status, b"", messages.encode()), self.run(*words, **variables))
+        same((status, b"", messages.encode()), self.run(*words, **variables), about)
 
     def packs(self, about, folder, name, messages="", **more):
         """A run that makes the files of this version's name in an empty folder. Returns their bytes by name."""
@@ -116,12 +108,12 @@ class Copy:
         names = [f"iptsim-{name}-x86_64.tar.gz", f"iptsim_{name}_amd64.deb"]
         names = [each for each in names if each in made or not each.endswith(".deb") or not messages.startswith("release: dpkg-deb")]
         sums = [f"{hashlib.sha256(made.get(each, b'')).hexdigest()}  %s{each}\n" for each in names]
-        self.runs.compared(about, (0, "".join(line % (folder + "/") for line in sums).encode(), messages.encode()), came)
+        same((0, "".join(line % (folder + "/") for line in sums).encode(), messages.encode()), came, about)
         due = sorted(names + [f"iptsim-{name}.sha256"])
-        self.runs.compared(f"{about}: the files", (0, " ".join(due).encode()), (0, " ".join(made).encode()))
-        self.runs.compared(f"{about}: the checksums", (0, "".join(line % "" for line in sums).encode()), (0, made.get(due[1], b"")))
+        same((0, " ".join(due).encode()), (0, " ".join(made).encode()), f"{about}: the files")
+        same((0, "".join(line % "" for line in sums).encode()), (0, made.get(due[1], b"")), f"{about}: the checksums")
         modes = {oct(os.stat(os.path.join(folder, each)).st_mode & 0o777) for each in made}
-        self.runs.compared(f"{about}: the modes", (0, b"0o644"), (0, " ".join(modes).encode()))
+        same((0, b"0o644"), (0, " ".join(modes).encode()), f"{about}: the modes")
         return made
 
 
@@ -135,18 +127,18 @@ def check_members(copy, about, archive, name, seconds, told="not released"):
     """What the archive holds: its folder, the owners, times, modes, checksums, and the programs, which are told a commit."""
     with tarfile.open(fileobj=io.BytesIO(archive)) as file:
         tops = {member.name.split("/")[0] for member in file.getmembers()}
-    copy.runs.compared(f"{about}: the folder", (0, f"iptsim-{name}".encode()), (0, " ".join(tops).encode()))
+    same((0, f"iptsim-{name}".encode()), (0, " ".join(tops).encode()), f"{about}: the folder")
     held = members(archive)
     odd = [place for place, (member, _) in held.items() if (member.uid, member.gid, member.mtime) != (0, 0, seconds)]
-    copy.runs.compared(f"{about}: owners and times", (0, b""), (0, " ".join(odd).encode()))
+    same((0, b""), (0, " ".join(odd).encode()), f"{about}: owners and times")
     modes = [f"{place} {member.mode:o}" for place, (member, _) in held.items() if member.mode != due_mode(place, member)]
-    copy.runs.compared(f"{about}: modes", (0, b""), (0, "\n".join(modes).encode()))
+    same((0, b""), (0, "\n".join(modes).encode()), f"{about}: modes")
     sums = "".join(f"{hashlib.sha256(data).hexdigest()}  {place}\n" for place, (member, data) in sorted(held.items())
                    if member.isreg() and place != "SHA256SUMS")
-    copy.runs.compared(f"{about}: SHA256SUMS", (0, sums.encode()), (0, held["SHA256SUMS"][1]))
+    same((0, sums.encode()), (0, held["SHA256SUMS"][1]), f"{about}: SHA256SUMS")
     for each in ("iptsim", "iptaudit"):
         with open(os.path.join(copy.stand_ins, each), "rb") as file:
-            copy.runs.compared(f"{about}: {each}", (0, file.read().replace(b"not released", told.encode())), (0, held[f"bin/{each}"][1]))
+            same((0, file.read().replace(b"not released", told.encode())), (0, held[f"bin/{each}"][1]), f"{about}: {each}")
     return held
 
 
@@ -162,7 +154,7 @@ def check_layout(copy, held):
     commands = [place for place, (member, _) in held.items() if member.issym() and place.startswith("bin/")]
     for place in commands:
         target, script = held[place][0].linkname, place[len("bin/iptsim-"):]
-        copy.runs.compared(place, (0, f"../lib/iptsim/bin/{script}".encode(), True), (0, target.encode(), f"lib/iptsim/bin/{script}" in held))
+        same((0, f"../lib/iptsim/bin/{script}".encode(), True), (0, target.encode(), f"lib/iptsim/bin/{script}" in held), place)
     for place, source in (("share/doc/iptsim/GUIDE.md", "docs/GUIDE.md"), ("share/doc/iptsim/RECIPES.md", "docs/RECIPES.md"),
                           ("share/doc/iptsim/DIFFERENCES.md", "docs/DIFFERENCES.md"), ("share/doc/iptsim/differences.tsv", "docs/differences.tsv"),
                           ("share/doc/iptsim/THEOREM.md", "docs/THEOREM.md"), ("share/doc/iptsim/GLOSSARY.md", "docs/GLOSSARY.md"),
@@ -170,33 +162,46 @@ def check_layout(copy, held):
                           ("share/doc/iptsim/examples/office.rules", "examples/office.rules"), ("install", "share/package/install"),
                           ("share/zsh/site-functions/_iptsim", "share/zsh/site-functions/_iptsim")):
         with open(os.path.join(ROOT, source), "rb") as file:
-            copy.runs.compared(place, (0, file.read()), (0, held[place][1]))
+            same((0, file.read()), (0, held[place][1]), place)
     with open(copy.page, "rb") as file:
-        copy.runs.compared("the page", (0, file.read()), (0, held["share/doc/iptsim/iptsim.html"][1]))
-    copy.runs.compared("the page at the top", (0, b"share/doc/iptsim/iptsim.html"), (0, held["iptsim.html"][0].linkname.encode()))
+        same((0, file.read()), (0, held["share/doc/iptsim/iptsim.html"][1]), "the page")
+    same((0, b"share/doc/iptsim/iptsim.html"), (0, held["iptsim.html"][0].linkname.encode()), "the page at the top")
     documents = [(place, text.decode()) for place, (_, text) in held.items() if place.endswith(".md")]
     links = [(place, target) for place, text in documents for target in re.findall(r"\]\(([^)#]+)", text) if ":" not in target]
     lost = [f"{place}: {target}" for place, target in links if os.path.normpath(os.path.join(os.path.dirname(place), target)) not in held]
-    copy.runs.compared("each link of a document leads to a file", (0, b""), (0, "\n".join(lost).encode()))
+    same((0, b""), (0, "\n".join(lost).encode()), "each link of a document leads to a file")
     pages = sorted(name for name in os.listdir(os.path.join(ROOT, "docs")) if name.endswith(".1"))
     came = sorted(os.path.basename(place) for place in held if place.startswith("share/man/man1/"))
-    copy.runs.compared("the manual pages", (0, " ".join(pages).encode()), (0, " ".join(came).encode()))
+    same((0, " ".join(pages).encode()), (0, " ".join(came).encode()), "the manual pages")
     others = [place for place in held if re.fullmatch(r"lib/iptsim/.*\.py", place)
               and not re.fullmatch(r"lib/iptsim/(commands/\w+|tests/__init__|tests/model/\w+)\.py", place)]
-    copy.runs.compared("no module of tests but the model", (0, b""), (0, " ".join(others).encode()))
+    same((0, b""), (0, " ".join(others).encode()), "no module of tests but the model")
 
 
-def check_words(copy):
+@pytest.fixture(scope="module")
+def copy(shared_folder, iptsim):
+    return Copy(shared_folder, iptsim.path)
+
+
+@pytest.fixture
+def folder(copy):
+    """A folder for what is made."""
+    path = os.path.join(copy.work, "a folder")
+    os.makedirs(path, exist_ok=True)
+    return path
+
+
+def test_words(copy):
     usage = "usage: tools/release [-h] [FOLDER]\ntools/release: error: unrecognized arguments: more\n"
     copy.refused("too many words", usage, ".", "more", status=2)
     copy.refused("no folder", "release: no folder in which a file can be made: nowhere\n", "nowhere")
     copy.refused("iptsim isn't built", "release: the program iptsim is not built\n", BROKEN="iptsim")
     copy.refused("iptaudit isn't built", "release: the program iptaudit is not built\n", BROKEN="iptaudit")
     left = sorted(os.listdir(copy.top))
-    copy.runs.compared("nothing is left", (0, " ".join(sorted(COPIED)).encode()), (0, " ".join(left).encode()))
+    same((0, " ".join(sorted(COPIED)).encode()), (0, " ".join(left).encode()), "nothing is left")
 
 
-def check_unversioned(copy, folder):
+def test_unversioned(copy, folder):
     """Outside of git the programs name no commit."""
     name = copy.version + "+unversioned"
     made = copy.packs("outside of git", folder, name)
@@ -204,42 +209,45 @@ def check_unversioned(copy, folder):
     check_layout(copy, held)
     text = held["INSTALL"][1].decode()
     for due in (f"iptsim {name}, for Linux on x86-64\n", "\nBoth programs were proved and built from the sources of this version.\n", "(glibc 2.34 or newer;"):
-        copy.runs.compared(f"INSTALL says '{due.strip()}'", (0, True), (0, due in text))
+        same((0, True), (0, due in text), f"INSTALL says '{due.strip()}'")
     for path in (os.path.join(copy.top, "docs", "iptsim.1"), os.path.join(copy.top, "crates", "iptsim", "out", "iptsim")):
         os.utime(path)
     again = copy.packs("the same again", folder, name, mask="077", TZ="Asia/Tokyo", GZIP="-1", TAR_OPTIONS="--exclude=INSTALL")
-    copy.runs.compared("both are equal", (0, True), (0, made == again))
+    same((0, True), (0, made == again), "both are equal")
 
 
-def commit(copy):
-    """Makes the copy git's, and returns the commit's hash."""
+def test_no_commit(copy, folder):
+    subprocess.run(["git", "init", "-q", copy.top], check=True)
+    ended = copy.run(folder)
+    assert (ended[0], ended[2].splitlines()[-1]) == (1, b"release: git names no commit of this repository")
+
+
+@pytest.fixture(scope="module")
+def committed(copy):
+    """The hash of the commit that makes the copy git's."""
     environment = {**copy.environment, **GIT}
     for words in (["init", "-q"], ["add", "."], ["commit", "-qm", "all"]):
         subprocess.run(["git", "-C", copy.top, *words], env=environment, check=True)
     return subprocess.run(["git", "-C", copy.top, "rev-parse", "HEAD"], stdout=subprocess.PIPE, text=True, check=True).stdout.strip()
 
 
-def check_versions(copy, folder):
-    """In git the programs name the commit, unless a file isn't as committed. Returns the commit."""
-    subprocess.run(["git", "init", "-q", copy.top], check=True)
-    ended = copy.run(folder)
-    copy.runs.compared("no commit", (1, b"release: git names no commit of this repository"), (ended[0], ended[2].splitlines()[-1]))
-    told, version = commit(copy), copy.version
+def test_versions(copy, folder, committed):
+    """In git the programs name the commit, unless a file isn't as committed."""
+    version = copy.version
     made = copy.packs("a commit", folder, version)
-    held = check_members(copy, "a commit", made[f"iptsim-{version}-x86_64.tar.gz"], version, SECONDS, told[:12])
-    copy.runs.compared("INSTALL names the commit", (0, True), (0, f"of this version (commit {told}).\n" in held["INSTALL"][1].decode()))
+    held = check_members(copy, "a commit", made[f"iptsim-{version}-x86_64.tar.gz"], version, SECONDS, committed[:12])
+    same((0, True), (0, f"of this version (commit {committed}).\n" in held["INSTALL"][1].decode()), "INSTALL names the commit")
     again = copy.packs("the commit again", folder, version, TZ="America/Los_Angeles")
-    copy.runs.compared("both of the commit are equal", (0, True), (0, made == again))
+    same((0, True), (0, made == again), "both of the commit are equal")
     new = os.path.join(copy.top, "crates", "rule_tests", "src", "new.rt")
     with open(new, "w", encoding="ascii"):
         pass
     made = copy.packs("a change", folder, version + "+changed")
     check_members(copy, "a change", made[f"iptsim-{version}+changed-x86_64.tar.gz"], version + "+changed", SECONDS)
     os.unlink(new)
-    return told
 
 
-def check_places(copy, told):
+def test_places(copy, committed):
     """Programs that have their version in two places, or in none, or don't print what stands there."""
     whole, version = os.path.join(copy.stand_ins, "iptsim"), copy.version
     with open(whole, encoding="utf-8") as file:
@@ -248,28 +256,28 @@ def check_places(copy, told):
     for other, messages in (
             (text + f"# {version} (not released)\n", place % 2),
             (text.replace(" (not released)", ""), place % 0),
-            (text.replace("$said", version), f"release: the program iptsim doesn't print 'iptsim {version} ({told[:12]})' as its version: iptsim {version}\n")):
-        copy.script(copy.stand_ins, "iptsim", other)
+            (text.replace("$said", version), f"release: the program iptsim doesn't print 'iptsim {version} ({committed[:12]})' as its version: iptsim {version}\n")):
+        script(whole, other)
         shutil.rmtree(os.path.join(copy.top, "crates", "iptsim", "out"))
         copy.refused(messages.strip(), messages)
-    copy.script(copy.stand_ins, "iptsim", text)
+    script(whole, text)
     shutil.rmtree(os.path.join(copy.top, "crates", "iptsim", "out"))
 
 
-def check_given(copy, folder):
+def test_given(copy, folder, committed):
     """Programs that the environment names are packed as they are, where they answer as they must and need the C library alone."""
     name, given = copy.version, {each: os.path.join(copy.stand_ins, each.lower()) for each in ("IPTSIM", "IPTAUDIT")}
     made = copy.packs("given programs", folder, name, named("iptsim", "iptaudit"), **given)
     held = check_members(copy, "given programs", made[f"iptsim-{name}-x86_64.tar.gz"], name, SECONDS)
     due = "\nA program was built elsewhere, and put into this archive as it was.\n"
-    copy.runs.compared("INSTALL says so", (0, True), (0, due in held["INSTALL"][1].decode()))
+    same((0, True), (0, due in held["INSTALL"][1].decode()), "INSTALL says so")
     copy.refused("no file", "release: IPTSIM names no file: nothing\n", IPTSIM="nothing")
     copy.refused("no page", "release: IPTSIM_PAGE names no file: nothing\n", IPTSIM_PAGE="nothing")
     left_out = "release: without a page, which isn't made of a program that IPTSIM or IPTAUDIT names; IPTSIM_PAGE can name one\n"
     made = copy.packs("given programs without a page", folder, name, named("iptsim", "iptaudit") + left_out, IPTSIM_PAGE="", **given)
     held = check_members(copy, "without a page", made[f"iptsim-{name}-x86_64.tar.gz"], name, SECONDS)
-    copy.runs.compared("nothing of a page", (0, b""), (0, " ".join(place for place in held if "html" in place).encode()))
-    copy.runs.compared("INSTALL names none", (0, False), (0, "html" in held["INSTALL"][1].decode()))
+    same((0, b""), (0, " ".join(place for place in held if "html" in place).encode()), "nothing of a page")
+    same((0, False), (0, "html" in held["INSTALL"][1].decode()), "INSTALL names none")
     more = "release: the program needs more than the C library, so it isn't the proved one: libgcc_s.so.1\n"
     copy.refused("more than the C library", named("iptsim") + more, MORE="libgcc_s.so.1", **given)
     without = {"PATH": os.environ["PATH"], **given}
@@ -277,19 +285,19 @@ def check_given(copy, folder):
     copy.refused("no program", named("iptsim") + no_program, **without)
 
 
-def check_answers(copy):
+def test_answers(copy, committed):
     """Programs that end with the right status, and say nothing, or say something else."""
     for name, status in (("iptsim", 0), ("iptaudit", 1)):
         given = {each: os.path.join(copy.stand_ins, each.lower()) for each in ("IPTSIM", "IPTAUDIT")}
         for text, ends in ((f"exit {status}", status), ("exit 7", 7), ("echo INPUT 1", 0)):
-            given[name.upper()] = copy.script(copy.work, "other one", f"#!/bin/sh\n{text}\n")
+            given[name.upper()] = script(os.path.join(copy.work, "other one"), f"#!/bin/sh\n{text}\n")
             ended = copy.run(**given)
             said = ended[2].decode()[len(named(*("iptsim", "iptaudit")[:1 + status])):].splitlines()[0]
             due = f"release: this isn't {name}, or it is broken: {given[name.upper()]} ends with status {ends}, where {status} is due, and answers"
-            copy.runs.compared(f"{name} with '{text}'", (1, b"", due.encode()), (ended[0], ended[1], said.encode()))
+            same((1, b"", due.encode()), (ended[0], ended[1], said.encode()), f"{name} with '{text}'")
 
 
-def check_real(copy, folder):
+def test_real(copy, folder, committed):
     """PROGRAM with the machine's own ldd; iptaudit stands for itself there by the same file."""
     needed = subprocess.run(["ldd", copy.program], stdout=subprocess.PIPE, text=True, check=False, env=dict(os.environ, LC_ALL="C")).stdout
     given = {"PATH": os.environ["PATH"], "IPTSIM": copy.program, "IPTAUDIT": copy.program}
@@ -297,10 +305,10 @@ def check_real(copy, folder):
     said = ended[2].decode().splitlines()[-1 if "libgcc_s" in needed else 2]
     due = ("release: the program needs more than the C library, so it isn't the proved one: libm.so.6 libgcc_s.so.1" if "libgcc_s" in needed
            else f"release: this isn't iptaudit, or it is broken: {copy.program} ends with status 2, where 1 is due, and answers")
-    copy.runs.compared("PROGRAM", (1, due.encode()), (ended[0], said.encode()))
+    same((1, due.encode()), (ended[0], said.encode()), "PROGRAM")
 
 
-def check_tools(copy, folder):
+def test_tools(copy, folder, committed):
     """Without dpkg-deb the archive is made alone; where it fails, nothing is."""
     links = os.path.join(copy.work, "links")
     os.mkdir(links)
@@ -312,24 +320,8 @@ def check_tools(copy, folder):
                     os.unlink(path)
                 os.symlink(os.path.join(place, name), path)
     copy.packs("without dpkg-deb", folder, copy.version, "release: dpkg-deb isn't there, so no package for Debian is made\n", PATH=f"{copy.tools}:{links}")
-    copy.script(copy.tools, "dpkg-deb", "#!/bin/sh\nexit 1\n")
+    script(os.path.join(copy.tools, "dpkg-deb"), "#!/bin/sh\nexit 1\n")
     shutil.rmtree(folder)
     os.mkdir(folder)
     copy.refused("dpkg-deb fails", "release: dpkg-deb makes no package\n", folder)
-    copy.runs.compared("nothing is made", (0, b""), (0, " ".join(os.listdir(folder)).encode()))
-
-
-def main(program):
-    with tempfile.TemporaryDirectory() as work:
-        copy, folder = Copy(work, program), os.path.join(work, "a folder")
-        check_words(copy)
-        check_unversioned(copy, folder)
-        check_places(copy, check_versions(copy, folder))
-        check_given(copy, folder)
-        check_answers(copy)
-        check_real(copy, folder)
-        check_tools(copy, folder)
-        copy.runs.end()
-
-
-main(programs("packaging/release PROGRAM [AUDIT]")[0])
+    same((0, b""), (0, " ".join(os.listdir(folder)).encode()), "nothing is made")

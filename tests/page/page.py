@@ -1,5 +1,5 @@
-"""tests/run page/page IPTSIM IPTAUDIT [FOLDER]: has tools/page make the page, and opens it in Chromium and in Firefox, from the disk and from a
-server that counts what is asked of it. Pictures of the views go to FOLDER, where one is given.
+"""The page with both programs, which tools/page makes, in Chromium and in Firefox, from the disk and from a server that counts what is asked of it.
+Pictures of the views go to the folder of `--pictures`, where one is given.
 
 - The cases of crates/cases/data, the commands of the guide, and questions about the dumps of examples run through the page's Worker: output,
   messages and status are those of the programs, to the byte. So they are in a memory that is too small, which ends in the status for it.
@@ -10,8 +10,6 @@ server that counts what is asked of it. Pictures of the views go to FOLDER, wher
 - Faults that are planted in web/machine and web/worker.js are found.
 - The toolchain's own way to WebAssembly is still closed: when it links a heap, tools/page can take it. What tools/page takes for granted of the
   toolchain is refused where it isn't so: tests/page/browsing/building.py.
-
-A browser that isn't there is passed over with a notice. It ends with status 1 where something isn't as expected.
 """
 
 import base64
@@ -20,18 +18,19 @@ import json
 import os
 import shutil
 import subprocess
-import sys
 import tempfile
+
+import pytest
 
 from tests import ROOT
 from tests.drawn.workloads import of_kind, restore
-from tests.page.browsing import building, given, planted, views
+from tests.page.browsing import given, planted, views
 from tests.page.browsing.calls import Call, in_page, on_machine
 from tests.page.browsing.chromium import Chromium
 from tests.page.browsing.failure import BrowserFailure
 from tests.page.browsing.firefox import Firefox
 from tests.page.browsing.served import SENDING, Server
-from tests.shared.rows import Rows
+from tests.shared.rows import same
 from tools.packing.programs import PROGRAMS, told
 from tools.packing.version import find_version
 from tools.paging.kit import Kit, call
@@ -82,33 +81,94 @@ def dumps():
     return found, given.read(os.path.join(folder, "office.packets"))
 
 
-def check_calls(runs, browser, calls, due):
+@pytest.fixture(scope="module")
+def page(proved):
+    """The page's text: the same each time that it is made."""
+    text = make_page(ROOT, find_version(ROOT))
+    assert text == make_page(ROOT, find_version(ROOT))
+    return text
+
+
+@pytest.fixture(scope="module")
+def page_path(page, shared_folder):
+    path = os.path.join(shared_folder, "iptsim.html")
+    with open(path, "w", encoding="utf-8") as file:
+        file.write(page)
+    return path
+
+
+@pytest.fixture(scope="module")
+def programs(iptsim, iptaudit):
+    return {"iptsim": iptsim.path, "iptaudit": iptaudit.path}
+
+
+@pytest.fixture(scope="module")
+def asked(programs):
+    """All calls, and what comes of them on this machine."""
+    found, packets = dumps()
+    every = [*given.of_cases(), *given.of_guide(programs), *given.of_dumps(found, packets), *given.of_words()]
+    with concurrent.futures.ThreadPoolExecutor(2) as pool:
+        return every, list(pool.map(lambda each: on_machine(programs, each), every))
+
+
+@pytest.fixture(scope="module", params=[pytest.param(name, marks=pytest.mark.xdist_group(f"page in {name}")) for name in BROWSERS])
+def started(request):
+    """A browser, in a folder of its own."""
+    if not shutil.which(request.param):
+        pytest.skip(f"{request.param} isn't there")
+    with tempfile.TemporaryDirectory() as folder:
+        browser = BROWSERS[request.param](folder)
+        try:
+            yield browser
+        finally:
+            browser.close()
+
+
+@pytest.fixture
+def browser(started, page_path):
+    """The browser, in which the page is opened from the disk."""
+    started.open(f"file://{page_path}")
+    return started
+
+
+@pytest.fixture
+def chromium(browser):
+    """The browser, where it is this one: in one of them is enough."""
+    if not isinstance(browser, Chromium):
+        pytest.skip("Chromium alone is asked")
+    return browser
+
+
+def test_calls(browser, asked):
     """The calls in the page beside those on this machine."""
-    for each, one, other in zip(calls, due, in_page(browser, calls)):
-        runs.compared(f"{browser.name}: {each.name}", (one.status, one.output, one.messages), (other.status, other.output, other.messages))
+    for each, one, other in zip(*asked, in_page(browser, asked[0])):
+        same((one.status, one.output, one.messages), (other.status, other.output, other.messages), f"{browser.name}: {each.name}")
 
 
-def check_memory(runs, browser):
-    """Memory that ends within a call: the status for it, and no trap. And 8,192 rules."""
-    rules = restore(of_kind("mixed", 8192)[0]).encode()
-    for program, words in (("iptsim", ["session", "--load", "rules"]), ("iptaudit", ["dead", "rules"])):
-        few = Call("few pages", program, words, {"rules": rules}, b"")
-        (answer,) = in_page(browser, [few], {"initial": 256, "maximum": 280})
-        runs.compared(f"{browser.name}: {program} in 280 pages", (4, b"", b""), (answer.status, answer.output, b""))
-    took, memory, status = browser.evaluate(LOADING % json.dumps(rules.decode()))
-    runs.compared(f"{browser.name}: 8,192 rules in {took:.0f} ms and {memory >> 20} MB", (0, b"True True"),
-                  (status, f"{took < LOAD_TIME} {memory < LOAD_MEMORY}".encode()))
+RULES = restore(of_kind("mixed", 8192)[0]).encode()
 
 
-def check_sending(runs, browser, page):
+@pytest.mark.parametrize("program, words", [("iptsim", ["session", "--load", "rules"]), ("iptaudit", ["dead", "rules"])], ids=["iptsim", "iptaudit"])
+def test_small_memory(program, words, browser):
+    """Memory that ends within a call: the status for it, and no trap."""
+    (answer,) = in_page(browser, [Call("few pages", program, words, {"rules": RULES}, b"")], {"initial": 256, "maximum": 280})
+    assert (answer.status, answer.output) == (4, b"")
+
+
+def test_full_chain(browser):
+    took, memory, status = browser.evaluate(LOADING % json.dumps(RULES.decode()))
+    assert status == 0 and took < LOAD_TIME and memory < LOAD_MEMORY
+
+
+def test_sending(browser, page):
     """The page is asked for once, and nothing else is."""
     server = Server(page.encode())
     try:
         browser.open(server.address)
         for answer, name in zip(in_page(browser, [Call("version", name, ["--version"], {}, b"") for name in PROGRAMS]), PROGRAMS):
-            runs.compared(f"{browser.name}: {name} --version", (0, f"{name} {told(find_version(ROOT))}\n".encode()), (answer.status, answer.output))
+            assert (answer.status, answer.output) == (0, f"{name} {told(find_version(ROOT))}\n".encode())
         passed = browser.evaluate(SENDING % server.root)
-        runs.compared(f"{browser.name}: what leaves the page", (0, b"", b"/iptsim.html"), (0, passed.encode(), " ".join(server.asked).encode()))
+        assert (passed, server.asked) == ("", ["/iptsim.html"])
     finally:
         server.close()
 
@@ -127,58 +187,30 @@ def machine_trial(kit, sources, work):
     }})()"""
 
 
-def check_machine(runs, browser, kit):
-    with tempfile.TemporaryDirectory() as work:
-        faults = browser.evaluate(machine_trial(kit, os.path.join(WEB, "machine"), work))
-    runs.compared(f"{browser.name}: web/machine", (0, b"[]"), (0, faults.encode()))
+def test_machine(browser, folder):
+    assert browser.evaluate(machine_trial(Kit(), os.path.join(WEB, "machine"), folder)) == "[]"
 
 
-def check_planted_machine(runs, browser, kit):
-    for name in planted.MACHINE:
-        with tempfile.TemporaryDirectory() as work:
-            sources = planted.planted_machine(os.path.join(WEB, "machine"), name, os.path.join(work, "machine"))
-            try:
-                is_found = browser.evaluate(machine_trial(kit, sources, work)) != "[]"
-            except BrowserFailure:
-                is_found = True
-        runs.compared(f"planted: {name}", (0, b"True"), (0, str(is_found).encode()))
+def test_views(browser, programs, page_path, pytestconfig):
+    views.check(browser, programs, page_path, pytestconfig.getoption("pictures"))
 
 
-def check_planted_worker(runs, browser, work, calls, due):
-    version, worker = find_version(ROOT), read(os.path.join(WEB, "worker.js"))
-    for name in planted.WORKER:
-        path = os.path.join(work, "planted.html")
-        with open(path, "w", encoding="utf-8") as file:
-            file.write(make_page(ROOT, version, worker=planted.planted_worker(worker, name)))
-        browser.open(f"file://{path}")
-        is_found = any(one != other for one, other in zip(due, in_page(browser, calls)))
-        runs.compared(f"planted: {name}", (0, b"True"), (0, str(is_found).encode()))
+@pytest.mark.parametrize("name", planted.MACHINE)
+def test_planted_in_machine(name, chromium, folder):
+    sources = planted.planted_machine(os.path.join(WEB, "machine"), name, os.path.join(folder, "machine"))
+    try:
+        assert chromium.evaluate(machine_trial(Kit(), sources, folder)) != "[]"
+    except BrowserFailure:
+        pass
 
 
-def check_own_way(runs, kit):
-    """The toolchain refuses to link a heap into WebAssembly."""
-    with tempfile.TemporaryDirectory() as work:
-        os.mkdir(os.path.join(work, "src"))
-        with open(os.path.join(work, "src", "lib.rt"), "w", encoding="utf-8") as file:
-            file.write(ROOM)
-        ended = subprocess.run([kit.part("bin", "rattle"), "build", "--crate-name", "room", "--crate-type", "staticlib", "--target",
-                                "wasm64-unknown-unknown", "src/lib.rt", "--extern", f"std={kit.part('rlibs', 'std.rlib')}", "-L",
-                                f"dependency={kit.part('rlibs')}", "--antt-project", kit.part("rattle", "logic", "antt-project.json"),
-                                "--logic-built", kit.part("logic_built"), "--links", "room=", "--toolchain", kit.part("toolchain"), "-o",
-                                "libroom.a"], cwd=work, stdout=subprocess.PIPE, stderr=subprocess.STDOUT, text=True, check=False)
-    is_refused = ended.returncode != 0 and all(word in ended.stdout for word in OWN_WAY)
-    runs.compared("the toolchain's own way to WebAssembly, which tools/page can take now" if not is_refused else "the toolchain's own way",
-                  (0, b"True"), (0, str(is_refused).encode()))
-
-
-def check_texts(runs):
-    """The page's reading and splitting of texts, tried without a browser."""
-    if shutil.which("node") is None:
-        print("page: node isn't there, so web/tests is passed over")
-        return
-    tests = sorted(os.path.join(WEB, "tests", name) for name in os.listdir(os.path.join(WEB, "tests")))
-    ended = subprocess.run(["node", "--test", *tests], stdin=subprocess.DEVNULL, stdout=subprocess.PIPE, stderr=subprocess.STDOUT, check=False)
-    runs.compared("web/tests", (0, b""), (ended.returncode, ended.stdout if ended.returncode else b""))
+@pytest.mark.parametrize("name", planted.WORKER)
+def test_planted_in_worker(name, chromium, asked, folder):
+    path, (calls, due) = os.path.join(folder, "planted.html"), few_of(*asked)
+    with open(path, "w", encoding="utf-8") as file:
+        file.write(make_page(ROOT, find_version(ROOT), worker=planted.planted_worker(read(os.path.join(WEB, "worker.js")), name)))
+    chromium.open(f"file://{path}")
+    assert any(one != other for one, other in zip(due, in_page(chromium, calls)))
 
 
 def few_of(calls, due):
@@ -189,55 +221,25 @@ def few_of(calls, due):
     return [calls[at] for at in places], [due[at] for at in places]
 
 
-def in_browser(kind, programs, page_path, page, calls, due, pictures):
-    """All trials in one browser, in a folder of its own: the runs that it counts."""
-    runs = Rows("page", calls[0].program)
-    with tempfile.TemporaryDirectory() as folder:
-        browser = kind(folder)
-        try:
-            browser.open(f"file://{page_path}")
-            check_calls(runs, browser, calls, due)
-            check_memory(runs, browser)
-            kit = Kit()
-            check_machine(runs, browser, kit)
-            check_sending(runs, browser, page)
-            views.check(runs, browser, programs, page_path, pictures)
-            if kind is Chromium:
-                check_planted_machine(runs, browser, kit)
-                check_planted_worker(runs, browser, folder, *few_of(calls, due))
-        finally:
-            browser.close()
-    return runs
+def test_own_way(folder):
+    """The toolchain refuses to link a heap into WebAssembly: when it doesn't, tools/page can take its own way."""
+    kit = Kit()
+    os.mkdir(os.path.join(folder, "src"))
+    with open(os.path.join(folder, "src", "lib.rt"), "w", encoding="utf-8") as file:
+        file.write(ROOM)
+    ended = subprocess.run([kit.part("bin", "rattle"), "build", "--crate-name", "room", "--crate-type", "staticlib", "--target",
+                            "wasm64-unknown-unknown", "src/lib.rt", "--extern", f"std={kit.part('rlibs', 'std.rlib')}", "-L",
+                            f"dependency={kit.part('rlibs')}", "--antt-project", kit.part("rattle", "logic", "antt-project.json"),
+                            "--logic-built", kit.part("logic_built"), "--links", "room=", "--toolchain", kit.part("toolchain"), "-o",
+                            "libroom.a"], cwd=folder, stdout=subprocess.PIPE, stderr=subprocess.STDOUT, text=True, check=False)
+    assert ended.returncode != 0 and [word for word in OWN_WAY if word not in ended.stdout] == []
 
 
-def main():
-    programs = dict(zip(("iptsim", "iptaudit"), map(os.path.realpath, sys.argv[1:3])))
-    pictures = sys.argv[3] if len(sys.argv) > 3 else None
-    there = [kind for command, kind in BROWSERS.items() if shutil.which(command)]
-    for command in BROWSERS:
-        if not shutil.which(command):
-            print(f"page: {command} isn't there, so the page isn't opened in it")
-    if not there:
-        return
-    runs = Rows("page", programs["iptsim"])
-    page = make_page(ROOT, find_version(ROOT))
-    again = make_page(ROOT, find_version(ROOT))
-    runs.compared("two runs make the same page", (0, b"True"), (0, str(page == again).encode()))
-    building.check(runs)
-    check_own_way(runs, Kit())
-    check_texts(runs)
-    found, packets = dumps()
-    calls = [*given.of_cases(), *given.of_guide(ROOT, programs), *given.of_dumps(found, packets), *given.of_words()]
-    with concurrent.futures.ThreadPoolExecutor(2) as pool:
-        due = list(pool.map(lambda each: on_machine(programs, each), calls))
-    with tempfile.TemporaryDirectory() as folder:
-        path = os.path.join(folder, "iptsim.html")
-        with open(path, "w", encoding="utf-8") as file:
-            file.write(page)
-        with concurrent.futures.ThreadPoolExecutor(len(there)) as pool:
-            for each in pool.map(lambda kind: in_browser(kind, programs, path, page, calls, due, pictures), there):
-                runs.count, runs.wrong = runs.count + each.count, runs.wrong + each.wrong
-    runs.end()
-
-
-main()
+@pytest.mark.parametrize("name", sorted(os.listdir(os.path.join(WEB, "tests"))))
+def test_texts(name):
+    """The page's reading and splitting of texts, tried without a browser."""
+    if shutil.which("node") is None:
+        pytest.skip("node isn't there")
+    ended = subprocess.run(["node", "--test", os.path.join(WEB, "tests", name)], stdin=subprocess.DEVNULL, stdout=subprocess.PIPE,
+                           stderr=subprocess.STDOUT, text=True, check=False)
+    assert ended.returncode == 0, ended.stdout

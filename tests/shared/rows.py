@@ -1,66 +1,114 @@
-"""Runs of a script on rows of data, for tests: files, words and what is due, to the byte."""
+"""Rows of data for tests: runs of a command, each with its words and files, and with what is due, to the byte."""
 
+import contextlib
 import os
 import subprocess
-import sys
 import tempfile
+import typing
+
+import pytest
 
 from tests import ROOT
 
 BIN = os.path.join(ROOT, "bin")
+# Where standard output goes to a pipe that nobody reads.
+UNREAD = "unread"
 
 
-class Rows:
-    """Runs that are called `name`, of the script of that name or another, which asks the program at `path`."""
+class Row(typing.NamedTuple):
+    """A run: what it is about, the words of the command, and the files of the folder where it runs; then what is due: standard output, the
+    status and standard error. Standard input has the bytes `input`, or is the file of this name, or is closed; standard output may be a file, too,
+    or an unread pipe; and some variables of the environment may be others."""
 
-    def __init__(self, name, path, script=None):
-        self.name, self.script, self.count, self.wrong = name, script or name, 0, 0
-        self.environment = dict(os.environ, IPTSIM=os.path.abspath(path))
-
-    def run(self, words, files, **devices):
-        """Runs the script on words, in a folder that has the files."""
-        with tempfile.TemporaryDirectory() as folder:
-            for file, data in files.items():
-                with open(os.path.join(os.fsencode(folder), os.fsencode(file)), "wb") as opened:
-                    opened.write(data)
-            devices = {"stdout": subprocess.PIPE, "stderr": subprocess.PIPE, "env": self.environment, **devices}
-            return subprocess.run([os.path.join(BIN, self.script), *words], cwd=folder, check=False, **devices)
-
-    def of_program(self, words, data):
-        """What the program itself writes to standard output, with these words and on this input."""
-        return subprocess.run([self.environment["IPTSIM"], *words], input=data, stdout=subprocess.PIPE, check=False).stdout
-
-    def row(self, about, words, files, output, status, messages=b"", **devices):
-        """One run, and what is due: standard output, the status and standard error."""
-        ended = self.run(words, files, **devices)
-        self.compared(about, (status, output, messages), (ended.returncode, ended.stdout or b"", ended.stderr))
-
-    def compared(self, about, due, came):
-        """Counts a run, and says what differs: the status, and lines of what it wrote."""
-        self.count += 1
-        if came != due:
-            self.wrong += 1
-            print(f"{self.name}: {about}: status {came[0]}, where {due[0]} is due", file=sys.stderr)
-            for lines, other, word in ((due, came, "due"), (came, due, "came")):
-                for text, against in zip(lines[1:], other[1:]):
-                    for line in text.splitlines():
-                        if line not in against.splitlines():
-                            print(f"  {word}: {line[:300]}", file=sys.stderr)
-
-    def end(self):
-        """Says how it went, and ends with the status."""
-        if self.wrong:
-            print(f"{self.name}: {self.wrong} of {self.count} runs were not as expected", file=sys.stderr)
-            sys.exit(1)
-        print(f"{self.name}: {self.count} runs were as expected")
+    about: str
+    words: list
+    files: dict
+    output: bytes
+    status: int
+    messages: bytes = b""
+    input: typing.Union[bytes, str, None] = b""
+    stdout: typing.Optional[str] = None
+    variables: dict = {}
 
 
-def programs(form):
-    """The words of a test that is called by `form`: its name, and the programs that it takes, in brackets those that may be left out. Where
-    the words are others, or one is no program that can be run, it says how the test is called, and ends with status 2."""
-    words, (name, *forms) = sys.argv[1:], form.split()
-    least = sum(not each.startswith("[") for each in forms)
-    if least <= len(words) <= len(forms) and all(os.access(word, os.X_OK) for word in words):
-        return words
-    print(f"{os.path.basename(name)}: call it as tests/run {form}, with programs that can be run", file=sys.stderr)
-    sys.exit(2)
+def each(*tables):
+    """Has a test run for each row of some tables, or of what functions yield, with the row's first column as its name."""
+    rows = [row for table in tables for row in (table() if callable(table) else table)]
+    return pytest.mark.parametrize("row", rows, ids=[row[0] if isinstance(row[0], str) else repr(row[0]) for row in rows])
+
+
+def write(folder, files):
+    """Writes files, by their names, into a folder. A name that ends in `/` is that of a folder."""
+    for name, data in files.items():
+        path = os.path.join(os.fsencode(folder), os.fsencode(name))
+        os.makedirs(os.path.dirname(path), exist_ok=True)
+        if not path.endswith(b"/"):
+            with open(path, "wb") as file:
+                file.write(data)
+
+
+def differing(due, came):
+    """The lines of texts that are due and didn't come, and of those that came and aren't due."""
+    for lines, others, word in ((due, came, "due"), (came, due, "came")):
+        for text, against in zip(lines, others):
+            if isinstance(text, (bytes, str)) and type(text) is type(against):
+                there = set(against.splitlines())
+                yield from (f"  {word}: {line[:300]}" for line in text.splitlines() if line not in there)
+            elif text != against:
+                yield f"  {word}: {text}"
+
+
+def same(due, came, about="what came"):
+    """Fails the test where what came, a status or the like and texts, isn't what is due, and says what differs."""
+    if due != came:
+        pytest.fail("\n".join([f"{about} isn't what is due:", *list(differing(due, came))[:100]]), pytrace=False)
+
+
+class Command:
+    """A command, by its path, with some variables of the environment, which may be taken away by None."""
+
+    def __init__(self, path, **variables):
+        self.path, self.variables = path, variables
+
+    def environment(self, variables):
+        every = {**os.environ, **self.variables, **variables}
+        return {name: value for name, value in every.items() if value is not None}
+
+    def run(self, words, files=(), input=b"", stdout=None, variables=(), **more):
+        """Runs the command on words, in a folder that has the files."""
+        with tempfile.TemporaryDirectory() as folder, contextlib.ExitStack() as opened:
+            write(folder, dict(files))
+            devices = {"input": input} if isinstance(input, bytes) else {"preexec_fn": lambda: os.close(0)}
+            if isinstance(input, str):
+                devices = {"stdin": os.open(os.path.join(folder, input), os.O_RDONLY)}
+                opened.callback(os.close, devices["stdin"])
+            devices["stdout"] = subprocess.PIPE
+            if stdout is not None:
+                devices["stdout"] = unread() if stdout is UNREAD else os.open(stdout, os.O_WRONLY)
+                opened.callback(os.close, devices["stdout"])
+            devices = {"stderr": subprocess.PIPE, "env": self.environment(dict(variables)), "cwd": folder, **devices, **more}
+            return subprocess.run([self.path, *words], check=False, **devices)
+
+    def said(self, words, input=b"", files=()):
+        """What it writes to standard output."""
+        return self.run(words, files, input).stdout
+
+    def check(self, row):
+        """Runs a row, and compares what came with what is due."""
+        ended = self.run(row.words, row.files, row.input, row.stdout, row.variables)
+        same((row.status, row.output, row.messages), (ended.returncode, ended.stdout or b"", ended.stderr))
+
+
+def unread():
+    """The end for writing of a pipe that nobody reads."""
+    reader, writer = os.pipe()
+    os.close(reader)
+    return writer
+
+
+def script(path, text):
+    """Writes a script that can be run, and returns its path."""
+    with open(path, "w", encoding="utf-8") as file:
+        file.write(text)
+    os.chmod(path, 0o755)
+    return path

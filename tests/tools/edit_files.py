@@ -1,14 +1,12 @@
-"""tests/run tools/edit_files: reads the edits of all crates as tools/edits does, and rows of files that aren't as tools/crates/edit_files.py says:
-each has to be refused, with the file and the line. It ends with status 1 where something isn't as expected, and says what differs.
+"""The edits of all crates, as tools/edits reads them, and rows of files that aren't as tools/crates/edit_files.py says: each has to be refused, with the
+file and the line.
 """
 
-import os
-import sys
-import tempfile
+import pytest
 
 from commands.crates import uses_of
 from tests import ROOT
-from tests.shared.rows import Rows
+from tests.shared.rows import write
 from tools.crates.edit_files import Edit, Malformed, edits_of
 
 # A crate, whose file right.edits each row has.
@@ -59,37 +57,28 @@ ROWS = (
 
 def read(folder, files):
     """What is read of the crate with these files besides: the edits of further-edits/right.edits, or what is wrong."""
-    for path, text in {**FILES, **files}.items():
-        place = os.path.join(folder, "crates", "x", path)
-        os.makedirs(os.path.dirname(place), exist_ok=True)
-        with open(place, "w", encoding="utf-8") as file:
-            file.write(text)
+    write(folder, {f"crates/x/{path}": text.encode() for path, text in {**FILES, **files}.items()})
     try:
         return tuple(edit for edit in edits_of(folder, "x") if edit.name not in ("kept", "known"))
     except Malformed as trouble:
         return str(trouble)
 
 
-def compare(rows, about, due, files):
-    with tempfile.TemporaryDirectory() as folder:
-        rows.compared(about, (0, str(due).encode()), (0, str(read(folder, files)).encode()))
+@pytest.mark.parametrize("crate", uses_of(ROOT))
+def test_crate(crate):
+    edits_of(ROOT, crate)
 
 
-def main(program):
-    rows = Rows("edit_files", program)
-    for crate in uses_of(ROOT):
-        try:
-            edits_of(ROOT, crate)
-        except Malformed as trouble:
-            rows.compared(f"the edits of {crate}", (0, b""), (1, str(trouble).encode()))
-    compare(rows, "well-formed edits", READ, {"further-edits/right.edits": WELL})
-    compare(rows, "the same in must-fail/", READ, {f"must-fail/{edit.name}.edit": edit.text() for edit in READ})
-    compare(rows, "a file of one edit", "crates/x/further-edits/a.edit:1: a file of further-edits/ is called MODULE.edits",
-            {"further-edits/a.edit": READ[1].text()})
-    for about, text, due in ROWS:
-        compare(rows, about, f"crates/x/further-edits/right.edits:{due}", {"further-edits/right.edits": text})
-    rows.end()
+@pytest.mark.parametrize("files", [{"further-edits/right.edits": WELL}, {f"must-fail/{edit.name}.edit": edit.text() for edit in READ}],
+                         ids=["further-edits", "must-fail"])
+def test_well_formed(files, folder):
+    assert read(folder, files) == READ
 
 
-if __name__ == "__main__":
-    main(sys.argv[1])
+def test_file_of_one_edit(folder):
+    assert read(folder, {"further-edits/a.edit": READ[1].text()}) == "crates/x/further-edits/a.edit:1: a file of further-edits/ is called MODULE.edits"
+
+
+@pytest.mark.parametrize("text, due", [row[1:] for row in ROWS], ids=[row[0] for row in ROWS])
+def test_malformed(text, due, folder):
+    assert read(folder, {"further-edits/right.edits": text}) == f"crates/x/further-edits/right.edits:{due}"

@@ -58,7 +58,7 @@ def known():
 
 
 def is_top_path(word):
-    """Whether a path that begins at the top of the repository is there; a test may stand without its suffix, as `tests/run` takes it."""
+    """Whether a path that begins at the top of the repository is there; a test may stand without its suffix."""
     if BUILT.search(word):
         return True
     if "*" in word:

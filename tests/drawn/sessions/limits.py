@@ -60,10 +60,11 @@ def long_walks(talk):
         say(packet)
 
 
-def limit_inputs(seed):
-    """(name, input) of each, as `drawn_input` gives them."""
-    for draw in (filled_chain, many_chains, long_walks):
-        name = f"{seed} {draw.__name__}"
-        talk = Talk(Dice(name), "edits")
-        draw(talk)
-        yield name, Input(["session"], None, talk.data(), (whole(talk.replies), b"", talk.run.status), talk.counts)
+LIMITS = {draw.__name__: draw for draw in (filled_chain, many_chains, long_walks)}
+
+
+def limit_input(name):
+    """The input of a name, whose last word is one of these, as `drawn_input` gives it."""
+    talk = Talk(Dice(name), "edits")
+    LIMITS[name.split()[-1]](talk)
+    return Input(["session"], None, talk.data(), (whole(talk.replies), b"", talk.run.status), talk.counts)

@@ -5,8 +5,9 @@ import shutil
 import subprocess
 import tempfile
 
-# What refuses an allocation of a program that it is preloaded into.
-SOURCE = os.path.join(os.path.dirname(os.path.realpath(__file__)), "refuse.c")
+# What refuses an allocation of a program that it is preloaded into, and what refuses it to open a file.
+FOLDER = os.path.dirname(os.path.realpath(__file__))
+SOURCE, OPEN = (os.path.join(FOLDER, name) for name in ("refuse.c", "refuse_open.c"))
 # In a program that tools/refusing built stands the number of the refused allocation, as the four bytes of a comparison with it. Each run
 # has another in its place, since nothing can be preloaded into such a program.
 BUILT_FOR = 123456789
@@ -23,11 +24,11 @@ def places_of(sign, data):
     return places
 
 
-def refuser(folder):
-    """The library that refuses an allocation of the program that it is preloaded into, built in a folder."""
+def preloaded(folder, source=SOURCE):
+    """The environment in which a library, built in a folder, is preloaded into a program, and nothing else is said."""
     library = os.path.join(folder, "refuse.so")
-    subprocess.run([os.environ.get("CC", "cc"), "-O2", "-shared", "-fPIC", "-o", library, SOURCE], check=True)
-    return library
+    subprocess.run([os.environ.get("CC", "cc"), "-O2", "-shared", "-fPIC", "-o", library, source], check=True)
+    return {"LD_PRELOAD": library}
 
 
 class RefusingProgram:
@@ -35,13 +36,13 @@ class RefusingProgram:
 
     def __init__(self, path):
         self.folder = tempfile.TemporaryDirectory()
-        self.path, self.load, self.runs = os.path.join(self.folder.name, "program"), os.path.join(self.folder.name, *DEEP, "file"), 0
+        self.path, self.load = os.path.join(self.folder.name, "program"), os.path.join(self.folder.name, *DEEP, "file")
         os.makedirs(os.path.dirname(self.load))
         shutil.copy(path, self.path)
         os.chmod(self.path, 0o700)
         with open(self.path, "rb") as file:
             self.places = places_of(SIGN, file.read())
-        self.environment = None if self.places else {"LD_PRELOAD": refuser(self.folder.name)}
+        self.environment = None if self.places else preloaded(self.folder.name)
 
     def refuse(self, number):
         """Has the allocation of a number refused in the next runs."""
@@ -58,7 +59,6 @@ class RefusingProgram:
 
     def run(self, words, data, file=None):
         """What it writes to standard output and to standard error, and its status."""
-        self.runs += 1
         if file is not None:
             with open(self.load, "wb") as load:
                 load.write(file)

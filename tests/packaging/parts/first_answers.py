@@ -9,6 +9,8 @@ import subprocess
 import sys
 import tempfile
 
+from tests.shared.rows import same, write
+
 # By GNU coreutils, as Debian has them in /bin and /usr/bin: those that scripts call.
 COREUTILS = ("basename", "cat", "chmod", "cp", "dirname", "echo", "env", "head", "install", "ln", "ls", "mkdir", "mktemp", "mv", "printf",
              "pwd", "readlink", "rm", "rmdir", "sha256sum", "sort", "tail", "test", "touch", "tr", "true", "uname", "wc")
@@ -63,17 +65,14 @@ def taken():
     return used.ru_utime + used.ru_stime
 
 
-def ask(runs, about, folder, environment):
+def ask(folder, environment):
     """Asks each command of a folder `bin` its row, in a folder of its own. Nothing may be left there, nor may it take long."""
     for name, row in ROWS.items():
         with tempfile.TemporaryDirectory() as work:
-            for file, data in FILES.items():
-                with open(os.path.join(work, file), "wb") as opened:
-                    opened.write(data)
+            write(work, FILES)
             before = taken()
             ended = subprocess.run([os.path.join(folder, name), *row.words], cwd=work, env=environment, input=row.given,
                                    stdout=subprocess.PIPE, stderr=subprocess.PIPE, check=False)
-            slow = b"slow\n" if taken() - before > MOST else b""
-            left = "".join(f"{file} is left\n" for file in sorted(os.listdir(work)) if file not in FILES).encode()
-        came = (ended.returncode, ended.stdout, ended.stderr, slow + left)
-        runs.compared(f"{about}: {name}", (row.status, row.output, row.messages, b""), came)
+            took, left = taken() - before, set(os.listdir(work)) - set(FILES)
+        same((row.status, row.output, row.messages, set()), (ended.returncode, ended.stdout, ended.stderr, left), f"what came of {name} in {folder}")
+        assert (name, took) < (name, MOST)

@@ -3,6 +3,8 @@
 import os
 import tempfile
 
+import pytest
+
 from tools.paging import Failure
 from tools.paging.bitcode import bitcode
 from tools.paging.bundle import bundle
@@ -116,14 +118,26 @@ def bundled(changed):
         return bundle(os.path.join(work, "main.js"))
 
 
-def check(runs):
-    """Compares all of these with what is due."""
-    runs.compared("a module for the other target", (0, DUE.encode()), (0, retargeted("p", MODULE).encode()))
-    for old, new, why in REFUSED:
-        runs.compared(f"a module that {why}", (0, (CHANGED % why).encode()), (0, outcome(lambda: retargeted("p", MODULE.replace(old, new))).encode()))
-    for told, program, due in HANDED:
-        came = outcome(lambda: handed(told, program))
-        runs.compared(f"what the toolchain hands over: {due}", (0, True), (0, due in came))
-    runs.compared("a bundle", (0, BUNDLE.encode()), (0, bundled({}).encode()))
-    for changed, due in UNBUNDLED:
-        runs.compared(f"modules: {due}", (0, True), (0, due in outcome(lambda: bundled(changed))))
+def test_module():
+    """A module for the other target."""
+    assert retargeted("p", MODULE) == DUE
+
+
+@pytest.mark.parametrize("old, new, why", REFUSED, ids=[row[2] for row in REFUSED])
+def test_refused_module(old, new, why):
+    assert outcome(lambda: retargeted("p", MODULE.replace(old, new))) == CHANGED % why
+
+
+@pytest.mark.parametrize("told, program, due", HANDED, ids=[row[2] for row in HANDED])
+def test_handed(told, program, due):
+    """What the toolchain hands over."""
+    assert due in outcome(lambda: handed(told, program))
+
+
+def test_bundle():
+    assert bundled({}) == BUNDLE
+
+
+@pytest.mark.parametrize("changed, due", UNBUNDLED, ids=[row[1] for row in UNBUNDLED])
+def test_unbundled(changed, due):
+    assert due in outcome(lambda: bundled(changed))

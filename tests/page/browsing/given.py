@@ -1,12 +1,13 @@
 """The calls that are tried in the page and on this machine: the cases, the guide's commands, and questions about the dumps of examples."""
 
 import os
-import subprocess
 import tempfile
 
+from tests.documents import guide
 from tests.page.browsing.calls import Call
 from tests.shared.case_files import all_cases
 from tests.shared.played import plays_of
+from tests.shared.rows import script
 
 # Keeps what a program is given, and then does as the program.
 KEEPING = """#!/bin/sh
@@ -47,17 +48,16 @@ def kept_call(folder):
     return Call(f"guide: {program} {' '.join(words)}", program, words, files, read(os.path.join(folder, "input")))
 
 
-def of_guide(root, programs):
+def of_guide(programs):
     """The calls that the documents' commands make."""
     with tempfile.TemporaryDirectory() as work:
-        kept, stand_ins = os.path.join(work, "kept"), []
+        kept = os.path.join(work, "kept")
         os.mkdir(kept)
-        for name, program in programs.items():
-            stand_ins.append(os.path.join(work, name))
-            with open(stand_ins[-1], "w", encoding="utf-8") as file:
-                file.write(KEEPING.format(kept=kept, name=name, program=program))
-            os.chmod(stand_ins[-1], 0o755)
-        subprocess.run([os.path.join(root, "tests", "documents", "guide"), *stand_ins], check=True, stdout=subprocess.DEVNULL)
+        stand_ins = {name: script(os.path.join(work, name), KEEPING.format(kept=kept, name=name, program=program)) for name, program in programs.items()}
+        for document in guide.DOCUMENTS:
+            text = guide.text_of(document)
+            came = list(guide.written_by(text, os.path.join(work, "of", document), **stand_ins))
+            assert came == [due for _, due in guide.commands_of(text)]
         return [kept_call(os.path.join(kept, name)) for name in sorted(os.listdir(kept))]
 
 

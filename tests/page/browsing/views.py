@@ -9,6 +9,7 @@ from tests import ROOT
 from tests.drawn.workloads import of_kind, restore
 from tests.page.browsing.calls import Call, on_machine
 from tests.page.browsing.user import PATIENCE, User
+from tests.shared import rows
 
 EXAMPLES = os.path.join(ROOT, "examples")
 MAIL = "packet FORWARD src=203.0.113.25 dst=10.0.2.25 proto=tcp in=eth0 out=eth2 sport=40009 dport=25 flags=SYN ct=NEW,DNAT"
@@ -20,13 +21,13 @@ DEAF = 1500
 
 
 class Views:
-    """The views in one browser: what is seen there goes to `runs`."""
+    """The views in one browser, of which pictures go to a folder, where one is given."""
 
-    def __init__(self, runs, browser, pictures):
-        self.runs, self.user, self.browser, self.pictures = runs, User(browser), browser, pictures
+    def __init__(self, browser, pictures):
+        self.user, self.browser, self.pictures = User(browser), browser, pictures
 
     def same(self, about, due, came):
-        self.runs.compared(f"{self.browser.name}: {about}", (0, str(due).encode()), (0, str(came).encode()))
+        rows.same((0, str(due).encode()), (0, str(came).encode()), f"{self.browser.name}: {about}")
 
     def has(self, about, part, whole):
         self.same(f"{about}: '{part}' in '{whole[:200]}'", True, part in whole)
@@ -248,9 +249,9 @@ class Views:
         self.same("what was cancelled can be asked again", 1, user.count("#ask-again"))
 
 
-def check(runs, browser, programs, path, pictures):
+def check(browser, programs, path, pictures):
     """All views, in the page that lies at a path."""
-    views, address = Views(runs, browser, pictures), f"file://{path}"
+    views, address = Views(browser, pictures), f"file://{path}"
     browser.show(WIDE, HEIGHT)
     views.user.open(address)
     views.check_start()

@@ -1,8 +1,10 @@
-"""Rulesets of ordinary kinds, of which `dead` may leave no rule unclear, for tests/programs/audit. Which rules are dead follows from how the
-rulesets are made.
-"""
+"""Rulesets of ordinary kinds, of which `dead` of iptaudit may leave no rule unclear. Which rules are dead follows from how the rulesets are made."""
 
 import re
+
+import pytest
+
+from tests.shared.rows import same
 
 POLICIES = b"*filter\n:INPUT DROP [0:0]\n:FORWARD DROP [0:0]\n:OUTPUT ACCEPT [0:0]\n"
 LOGIN = b"-p tcp -m tcp --dport 22"
@@ -64,13 +66,13 @@ RULESETS = {
 }
 
 
-def without_answers(rows):
+def test_answers(iptaudit):
     """Runs `tests` on sets of banned hosts: a packet that none of their chains names comes to the rule behind them, whatever the sets have."""
     rules, _dead = RULESETS["sets of banned hosts"]
     behind = next(number for number, rule in enumerate(rules, 1) if rule.endswith(b"-j ACCEPT"))
-    ended = rows.run(["tests", "R"], {"R": dump_of(rules)})
+    ended = iptaudit.run(["tests", "R"], {"R": dump_of(rules)})
     came = re.findall(rb"(?m)^# INPUT %d .*\n(#   if|packet)" % behind, ended.stdout)
-    rows.compared("no answers for a packet that comes whatever holds", (1, [b"packet"], b""), (ended.returncode, came, ended.stderr))
+    assert (ended.returncode, came, ended.stderr) == (1, [b"packet"], b"")
 
 
 def dump_of(rules):
@@ -79,11 +81,10 @@ def dump_of(rules):
     return POLICIES + b"".join(b":%s - [0:0]\n" % chain for chain in chains) + b"".join(rule + b"\n" for rule in rules) + b"COMMIT\n"
 
 
-def clear_rows(rows):
-    """Runs `dead` on each of them, and `tests` on one."""
-    without_answers(rows)
-    for about, (rules, dead) in RULESETS.items():
-        ended = rows.run(["dead", "R"], {"R": dump_of(rules)})
-        came = re.findall(rb"(?m)^(?:dead|unclear) \S+ \d+|^\d+ rules, .*", ended.stdout)
-        due = [b"dead " + name for name in dead] + [b"%d rules, %d dead, 0 unclear" % (len(rules), len(dead))]
-        rows.compared(f"none unclear: {about}", (1, b"\n".join(due), b""), (ended.returncode, b"\n".join(came), ended.stderr))
+@pytest.mark.parametrize("about", RULESETS)
+def test_clear(about, iptaudit):
+    rules, dead = RULESETS[about]
+    ended = iptaudit.run(["dead", "R"], {"R": dump_of(rules)})
+    came = re.findall(rb"(?m)^(?:dead|unclear) \S+ \d+|^\d+ rules, .*", ended.stdout)
+    due = [b"dead " + name for name in dead] + [b"%d rules, %d dead, 0 unclear" % (len(rules), len(dead))]
+    same((1, b"\n".join(due), b""), (ended.returncode, b"\n".join(came), ended.stderr))

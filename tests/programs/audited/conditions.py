@@ -1,11 +1,11 @@
-"""Runs of iptaudit on whole dumps, whose rules have conditions that it doesn't know, for tests/programs/audit. What it says is compared with
+"""iptaudit on whole dumps, whose rules have conditions that it doesn't know. What it says is compared with
 iptsim, which is asked about each assignment of the conditions: a dump without conditions, in which a rule whose needs fail matches nothing.
 """
 
 import itertools
-import os
 import re
-import subprocess
+
+import pytest
 
 HEAD = "*filter\n:INPUT %s [0:0]\n:FORWARD ACCEPT [0:0]\n:OUTPUT ACCEPT [0:0]\n:a - [0:0]\n:b - [0:0]\n"
 NEVER = "-m iprange --src-range 0.0.0.1-0.0.0.0"
@@ -33,7 +33,7 @@ TWICE = ("DROP", [
     ("INPUT", "-j a", []), ("INPUT", "-p udp -j a", []), ("INPUT", "-p udp -g b", [no(HERE)]), ("a", "-s 10.0.0.0/8 -j ACCEPT", [OFTEN]),
     ("a", "-m conntrack --ctstate INVALID -j DROP", []), ("b", "-d 192.0.2.0/24 -j ACCEPT", [HERE]), ("b", "-j DROP", [SELDOM]), ("b", "-j ACCEPT", [])])
 PLAIN = ("DROP", [("INPUT", "-p tcp -m tcp --dport 22 -j ACCEPT", []), ("INPUT", "-p tcp -j DROP", [])])
-DUMPS = [UFW, PLACES, TWICE, PLAIN]
+DUMPS, NAMES = [UFW, PLACES, TWICE, PLAIN], ["ufw", "places", "twice", "plain"]
 
 
 def without(dump, number):
@@ -114,21 +114,11 @@ def assignments(*dumps):
         yield dict(zip(keys, values))
 
 
-class Oracle:
-    """iptsim, asked about each assignment of the conditions of a dump."""
-
-    def __init__(self, rows, program):
-        self.rows, self.program = rows, program
-
-    def walks(self, data, packets):
-        """The rules on the walk of each packet, and how it ends, in what is left of a dump."""
-        path = os.path.join(self.rows.folder, "R")
-        with open(path, "wb") as file:
-            file.write(data)
-        ended = subprocess.run([self.program, "session", "--load", path], input="".join(packet + "\n" for packet in packets).encode(),
-                               stdout=subprocess.PIPE, check=True)
-        found = re.findall(r"((?:\S+ \d+\n)*)verdict (.*) by (rule|policy)\n", ended.stdout.decode())
-        return [(rules.splitlines(), verdict, rules.splitlines()[-1] if by == "rule" else "policy") for rules, verdict, by in found]
+def walks(iptsim, data, packets):
+    """The rules on the walk of each packet, and how it ends, by iptsim, in what is left of a dump."""
+    said = iptsim.said(["session", "--load", "R"], "".join(packet + "\n" for packet in packets).encode(), {"R": data})
+    found = re.findall(r"((?:\S+ \d+\n)*)verdict (.*) by (rule|policy)\n", said.decode())
+    return [(rules.splitlines(), verdict, rules.splitlines()[-1] if by == "rule" else "policy") for rules, verdict, by in found]
 
 
 def answers_of(line, known):
@@ -155,29 +145,24 @@ def branch_of(line, assignment, known):
     return "nothing"
 
 
-def fails(rows, about, wrong):
-    """Counts a run that was compared with the oracle."""
-    rows.compared(about, (0, b"", b""), (0, "\n".join(map(str, wrong)).encode(), b""))
-
-
-def walk_rows(rows, oracle, number, dump):
+@pytest.mark.parametrize("dump", DUMPS, ids=NAMES)
+def test_walk(dump, iptsim, iptaudit):
     """The walks of packets, which each assignment has, and the rules that they cover."""
     known, data = names(dump[1]), whole(dump)
     given = "".join(packet + "\n" for packet in PACKETS).encode()
-    ended = rows.run(["walk", "R"], {"R": data}, input=given)
-    lines = ended.stdout.decode().splitlines()
+    lines = iptaudit.said(["walk", "R"], given, {"R": data}).decode().splitlines()
     shown = dict(zip(lines[0:2 * len(PACKETS):2], lines[1:2 * len(PACKETS):2]))
-    wrong, met = [] if list(shown) == PACKETS else ["other packets"], []
+    assert list(shown) == PACKETS
+    wrong, met = [], []
     for assignment in assignments(dump):
-        walks = oracle.walks(resolved(dump, assignment), PACKETS)
-        met.append((assignment, [set(rules) for rules, _, _ in walks]))
-        for packet, (_, verdict, by) in zip(PACKETS, walks):
+        found = walks(iptsim, resolved(dump, assignment), PACKETS)
+        met.append((assignment, [set(rules) for rules, _, _ in found]))
+        for packet, (_, verdict, by) in zip(PACKETS, found):
             came = branch_of(shown.get(packet, ""), assignment, known)
             if came != f"{verdict} by {by}":
                 wrong.append((packet, assignment, came, verdict, by))
-    fails(rows, f"walks of dump {number}", wrong)
-    text = rows.run(["cover", "R"], {"R": data}, input=given).stdout.decode()
-    fails(rows, f"rules that packets cover of dump {number}", uncovered(dump, text, known, met))
+    assert wrong == []
+    assert uncovered(dump, iptaudit.said(["cover", "R"], given, {"R": data}).decode(), known, met) == []
 
 
 def uncovered(dump, text, known, met):
@@ -195,43 +180,35 @@ def uncovered(dump, text, known, met):
     return wrong
 
 
-def live_rows(rows, oracle, number, dump):
+@pytest.mark.parametrize("dump", DUMPS, ids=NAMES)
+def test_packets_of_rules(dump, iptsim, iptaudit):
     """The packet of each live rule, under its answers; and that no assignment brings a dead rule on the walk of one of these packets."""
-    known, text = names(dump[1]), rows.run(["tests", "R"], {"R": whole(dump)}).stdout.decode()
+    known, text = names(dump[1]), iptaudit.said(["tests", "R"], files={"R": whole(dump)}).decode()
     live = re.findall(r"(?m)^# (\S+ \d+) -A .*\n(?:#   if (.*)\n)?(?:# )?(packet .*)$", text)
     dead = set(re.findall(r"(?m)^# dead (\S+ \d+) ", text))
     wrong = sorted({name for name, *_ in places(dump[1])} ^ ({name for name, *_ in live} | dead))
     for assignment in assignments(dump):
-        walks = oracle.walks(resolved(dump, assignment), [packet for _, _, packet in live])
-        for (name, line, packet), (rules, _, _) in zip(live, walks):
+        found = walks(iptsim, resolved(dump, assignment), [packet for _, _, packet in live])
+        for (name, line, packet), (rules, _, _) in zip(live, found):
             if agrees(assignment, answers_of(line, known)) and name not in rules or dead & set(rules):
                 wrong.append((name, line, packet, assignment, rules))
-    fails(rows, f"packets of the rules of dump {number}", wrong)
+    assert wrong == []
 
 
-def same_rows(rows, oracle, number, old, new):
+@pytest.mark.parametrize("old, new", PAIRS, ids=[f"pair {number}" for number in range(1, len(PAIRS) + 1)])
+def test_compare(old, new, iptsim, iptaudit):
     """Two dumps: what is the same is the same under each assignment for these packets, and what differs differs under the answers."""
     known = {**names(new[1], True), **names(old[1], True)}
-    text = rows.run(["compare", "O", "N"], {"O": whole(old), "N": whole(new)}).stdout.decode()
+    text = iptaudit.said(["compare", "O", "N"], files={"O": whole(old), "N": whole(new)}).decode()
     differs = re.findall(r"(?m)^(\S+) differs\n(packet .*)\n(?:  if (.*)\n)?old:\n", text)
     packets = [packet for _, packet, _ in differs] + PACKETS
     wrong = re.findall(r"(?m)^\S+ unclear$", text)
     for assignment in assignments(old, new):
-        both = zip(packets, oracle.walks(resolved(old, assignment), packets), oracle.walks(resolved(new, assignment), packets))
+        both = zip(packets, walks(iptsim, resolved(old, assignment), packets), walks(iptsim, resolved(new, assignment), packets))
         for place, (packet, first, second) in enumerate(both):
             are_same = first[1] == second[1]
             if place < len(differs) and are_same and agrees(assignment, answers_of(differs[place][2], known)):
                 wrong.append((packet, assignment, first, second))
             if not are_same and f"{packet.split()[1]} same\n" in text:
                 wrong.append((packet, assignment, first, second))
-    fails(rows, f"pair {number} of dumps", wrong)
-
-
-def condition_rows(rows, program):
-    """Whole dumps."""
-    oracle = Oracle(rows, program)
-    for number, dump in enumerate(DUMPS, 1):
-        walk_rows(rows, oracle, number, dump)
-        live_rows(rows, oracle, number, dump)
-    for number, (old, new) in enumerate(PAIRS, 1):
-        same_rows(rows, oracle, number, old, new)
+    assert wrong == []

@@ -1,7 +1,8 @@
-"""Runs of iptaudit with --json, for tests/programs/audit and tests/commands/schemas: the words, the files, standard input, the status, and the
-document that is due."""
+"""iptaudit with --json: the words, the files, standard input, the status, and the document that is due, to the byte."""
 
 import json
+
+from tests.shared.rows import Row, each
 
 POLICIES = b"*filter\n:INPUT DROP [0:0]\n:FORWARD ACCEPT [0:0]\n:OUTPUT ACCEPT [0:0]\n:a - [0:0]\n:b - [0:0]\n"
 
@@ -240,14 +241,18 @@ def document_of(question, document):
     return json.dumps({"question": question, **document}, separators=(",", ":"), ensure_ascii=False).encode() + b"\n"
 
 
-def document_rows(rows):
-    """Runs each of them."""
+def document_rows():
     for question, table in DOCUMENTS.items():
         for words, files, given, status, document in table:
             words = [question, "--json", *words]
             told = b"".join(b"line %d: unclear\n" % number for number in document.get("unclear_lines", ()))
-            rows.row(" ".join(words), words, files, document_of(question, document), status, told, input=given)
-    rows.row("cover --json, a line that is no packet", ["cover", "--json", "R"], {"R": GATEWAY}, b"", 2, b"line 1: S1 unknown line\n", input=b"boom")
+            yield Row(" ".join(words), words, files, document_of(question, document), status, told, given)
+    yield Row("cover --json, a line that is no packet", ["cover", "--json", "R"], {"R": GATEWAY}, b"", 2, b"line 1: S1 unknown line\n", b"boom")
+
+
+@each(document_rows)
+def test_document(row, iptaudit):
+    iptaudit.check(row)
 
 
 def schema_rows():

@@ -1,4 +1,6 @@
-"""Rows of tests/programs/audit: the help of iptaudit and of its subcommands, to the byte."""
+"""The help of iptaudit and of its subcommands, to the byte."""
+
+from tests.shared.rows import Row, each
 
 # The options of a question about all packets of some, and those of one about whole dumps, by the columns of their help.
 ALL = ((b"--steps <N>", b"Take N steps at most for each question, each a rule asked of a box of packets [default: 20000]"),
@@ -27,14 +29,19 @@ def columns(rows):
     return b"".join(b"  %s  %s\n" % (name.ljust(width), said) for name, said in rows)
 
 
-def help_rows(rows):
+def help_rows():
     """Help is no answer: it goes to standard error, with status 2."""
     asked = columns([(name.encode(), about) for name, about, _, _ in HELPS])
     more = columns([(b"-h, --help", b"Print help"), (b"-V, --version", b"Print version")])
-    rows.row("help", ["--help"], {}, b"", 2, b"Questions about all packets, asked of files of iptables-restore\n\n"
-             b"Usage: iptaudit [COMMAND]\n\nCommands:\n" + asked + b"\nOptions:\n" + more)
+    yield Row("help", ["--help"], {}, b"", 2, b"Questions about all packets, asked of files of iptables-restore\n\n"
+              b"Usage: iptaudit [COMMAND]\n\nCommands:\n" + asked + b"\nOptions:\n" + more)
     for name, about, words, options in HELPS:
         usage = b" ".join((name.encode(), b"[OPTIONS]", *(word for word, _ in words)))
         listed = columns([(b"    " + option, said) for option, said in options] + [(b"-h, --help", b"Print help")])
-        rows.row(f"help, {name}", [name, "--help"], {}, b"", 2, about + b"\n\nUsage: iptaudit " + usage + b"\n\nArguments:\n" + columns(words)
-                 + b"\nOptions:\n" + listed)
+        yield Row(f"help, {name}", [name, "--help"], {}, b"", 2, about + b"\n\nUsage: iptaudit " + usage + b"\n\nArguments:\n" + columns(words)
+                  + b"\nOptions:\n" + listed)
+
+
+@each(help_rows)
+def test_help(row, iptaudit):
+    iptaudit.check(row)

@@ -1,7 +1,8 @@
-"""What iptaudit writes about dumps that ask for types of addresses, where `--local` tells the addresses of the machine, for
-tests/programs/audit."""
+"""What iptaudit writes about dumps that ask for types of addresses, where `--local` tells the addresses of the machine."""
 
 import ipaddress
+
+from tests.shared.rows import Row, each
 
 TYPES = ("LOCAL", "BROADCAST", "MULTICAST")
 HEAD = b"*filter\n:INPUT DROP [0:0]\n:FORWARD DROP [0:0]\n:OUTPUT DROP [0:0]\n"
@@ -41,23 +42,23 @@ def packet(option, address):
     return f"packet INPUT src={src} dst={dst} in=eth0 proto=udp sport=1 dport=2\n"
 
 
-def walk_row(rows, option, machine, lines, end):
-    """The walks of packets with each of the addresses; `end` says what is due of a type."""
+def walk_row(option, machine, lines, end):
+    """The row of the walks of packets with each of the addresses; `end` says what is due of a type."""
     given = [packet(option, address) for address in ADDRESSES]
     due = [f"{line}  {end(type_of(address, machine))}\n" for line, address in zip(given, ADDRESSES)]
-    rows.row(f"--local {machine}: {lines}", ["walk", "--local", ",".join(machine), "R"], {"R": dump(lines)}, "".join(due).encode(), 0,
-             input="".join(given).encode())
+    return Row(f"--local {machine}: {lines}", ["walk", "--local", ",".join(machine), "R"], {"R": dump(lines)}, "".join(due).encode(), 0,
+               input="".join(given).encode())
 
 
-def type_rows(rows):
+def type_rows():
     """Each type, and its opposite, of both addresses of a packet."""
     for option in ("src", "dst"):
         for machine in MACHINES:
-            walk_row(rows, option, machine, [f"-m addrtype --{option}-type {name} -j ACCEPT" for name in TYPES],
-                     lambda name: f"ACCEPT by INPUT {TYPES.index(name) + 1}" if name else "DROP by policy")
+            yield walk_row(option, machine, [f"-m addrtype --{option}-type {name} -j ACCEPT" for name in TYPES],
+                           lambda name: f"ACCEPT by INPUT {TYPES.index(name) + 1}" if name else "DROP by policy")
             for other in TYPES:
-                walk_row(rows, option, machine, [f"-m addrtype ! --{option}-type {other} -j ACCEPT"],
-                         lambda name, other=other: "DROP by policy" if name == other else "ACCEPT by INPUT 1")
+                yield walk_row(option, machine, [f"-m addrtype ! --{option}-type {other} -j ACCEPT"],
+                               lambda name, other=other: "DROP by policy" if name == other else "ACCEPT by INPUT 1")
 
 
 # Rules that ask more than one type, or another one: these conditions stay open.
@@ -66,21 +67,26 @@ OPEN = dump([f"-m addrtype {words} -j ACCEPT" for words in (
 PLAIN = dump(["-m addrtype --dst-type LOCAL -j ACCEPT", "-d 127.0.0.1 -j DROP"])
 
 
-def local_rows(rows):
-    type_rows(rows)
-    rows.row("--local: what stays open", ["dead", "--local", "192.0.2.1/24", "R"], {"R": OPEN},
-             b"5 rules, 0 dead, 0 unclear\n4 conditions open: addrtype 4\n", 0)
-    rows.row("--local: a dead rule", ["dead", "--local", "192.0.2.1", "R"], {"R": PLAIN},
-             b"dead INPUT 2 -A INPUT -d 127.0.0.1/32 -j DROP\n  taken by INPUT 1 (ACCEPT)\n2 rules, 1 dead, 0 unclear\n0 redundant, 1 shadowed\n", 1)
+def local_rows():
+    """What stays open, and addresses that can't be read."""
+    yield Row("--local: what stays open", ["dead", "--local", "192.0.2.1/24", "R"], {"R": OPEN},
+              b"5 rules, 0 dead, 0 unclear\n4 conditions open: addrtype 4\n", 0)
+    yield Row("--local: a dead rule", ["dead", "--local", "192.0.2.1", "R"], {"R": PLAIN},
+              b"dead INPUT 2 -A INPUT -d 127.0.0.1/32 -j DROP\n  taken by INPUT 1 (ACCEPT)\n2 rules, 1 dead, 0 unclear\n0 redundant, 1 shadowed\n", 1)
     same = b"INPUT same\nFORWARD same\nOUTPUT same\n"
-    rows.row("--local: compare", ["compare", "--local", "192.0.2.1", "O", "N"],
-             {"O": PLAIN, "N": dump(["-m iprange --dst-range 127.0.0.0-127.255.255.254 -j ACCEPT", "-d 192.0.2.1 -j ACCEPT"])},
-             same + b"4 changed rules, 1 dead, 0 unclear\n", 0)
-    rows.row("--local: an answer to what is known", ["dead", "--local", "192.0.2.1", "--when", "addrtype --dst-type LOCAL", "R"], {"R": PLAIN},
-             b"", 2, b"iptaudit: no rule has this condition: addrtype --dst-type LOCAL\n")
+    yield Row("--local: compare", ["compare", "--local", "192.0.2.1", "O", "N"],
+              {"O": PLAIN, "N": dump(["-m iprange --dst-range 127.0.0.0-127.255.255.254 -j ACCEPT", "-d 192.0.2.1 -j ACCEPT"])},
+              same + b"4 changed rules, 1 dead, 0 unclear\n", 0)
+    yield Row("--local: an answer to what is known", ["dead", "--local", "192.0.2.1", "--when", "addrtype --dst-type LOCAL", "R"], {"R": PLAIN},
+              b"", 2, b"iptaudit: no rule has this condition: addrtype --dst-type LOCAL\n")
     for words in ("", "x", "192.0.2.1,", "192.0.2.1/33", "192.0.2.256", "eth0", "192.0.2.1/24/24", "192.0.2.1 /24"):
-        rows.row(f"--local {words!r}", ["dead", "--local", words, "R"], {"R": PLAIN}, b"", 2, f"iptaudit: no addresses: {words}\n".encode())
+        yield Row(f"--local {words!r}", ["dead", "--local", words, "R"], {"R": PLAIN}, b"", 2, f"iptaudit: no addresses: {words}\n".encode())
     most = ",".join(f"10.0.{number}.1/24" for number in range(8))
-    rows.row("--local: the most addresses", ["dead", "--local", most, "R"], {"R": PLAIN},
-             b"dead INPUT 2 -A INPUT -d 127.0.0.1/32 -j DROP\n  taken by INPUT 1 (ACCEPT)\n2 rules, 1 dead, 0 unclear\n0 redundant, 1 shadowed\n", 1)
-    rows.row("--local: more", ["dead", "--local", f"{most},10.1.0.1", "R"], {"R": PLAIN}, b"", 2, f"iptaudit: more than 8 addresses: {most},10.1.0.1\n".encode())
+    yield Row("--local: the most addresses", ["dead", "--local", most, "R"], {"R": PLAIN},
+              b"dead INPUT 2 -A INPUT -d 127.0.0.1/32 -j DROP\n  taken by INPUT 1 (ACCEPT)\n2 rules, 1 dead, 0 unclear\n0 redundant, 1 shadowed\n", 1)
+    yield Row("--local: more", ["dead", "--local", f"{most},10.1.0.1", "R"], {"R": PLAIN}, b"", 2, f"iptaudit: more than 8 addresses: {most},10.1.0.1\n".encode())
+
+
+@each(type_rows, local_rows)
+def test_local(row, iptaudit):
+    iptaudit.check(row)

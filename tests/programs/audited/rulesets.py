@@ -1,4 +1,42 @@
-"""Rulesets for tests/programs/audit: which of their rules are dead, and which of them give each packet the same verdict."""
+"""Rulesets about which iptaudit is asked: which of their rules are dead, and which of them give each packet the same verdict. And how they and
+its answers are written.
+"""
+
+import os
+
+from tests import ROOT
+from tests.shared.numbering import numbered
+
+POLICIES = b"*filter\n:INPUT %s [0:0]\n:FORWARD ACCEPT [0:0]\n:OUTPUT ACCEPT [0:0]\n"
+SAME = b"INPUT same\nFORWARD same\nOUTPUT same\n"
+COUNTS = b"%d rules, %d dead, %d unclear\n"
+STANDINGS = b"%d redundant, %d shadowed\n"
+COVERED = b"%d rules, %d covered, %d missed, %d dead, %d unclear\n"
+CHANGED = b"%d changed rules, %d dead, %d unclear\n"
+
+
+def ruleset(policy, rules):
+    return POLICIES % policy + b":a - [0:0]\n:b - [0:0]\n" + b"".join(rule + b"\n" for rule in rules) + b"COMMIT\n"
+
+
+def office(suffix):
+    """A file of the example of an office."""
+    with open(os.path.join(ROOT, "examples", "office." + suffix), "rb") as file:
+        return file.read()
+
+
+def named(rules):
+    """The rules by the names that the program prints."""
+    return {b"%s %d" % (chain, number): rule for chain, number, rule in numbered(rules)}
+
+
+def listed(rules):
+    """The rules of `named` in the order of a listing."""
+    names = named(rules)
+    chains = [b"INPUT", b"FORWARD", b"OUTPUT"]
+    chains += sorted({name.split()[0] for name in names} - set(chains))
+    return [(name, names[name]) for chain in chains for name in names if name.split()[0] == chain]
+
 
 # The policy of INPUT, rules of INPUT and of a chain, and the rules that no packet can match, with the reason: a rule before them that decides
 # all that they allow, or several together, or the policy, each with what it does; they themselves; a chain that no walk comes to, or only with other

@@ -1,4 +1,6 @@
-"""What iptaudit writes about whole dumps, whose rules have conditions that it doesn't know, for tests/programs/audit."""
+"""What iptaudit writes about whole dumps, whose rules have conditions that it doesn't know, to the byte."""
+
+from tests.shared.rows import Row, each
 
 HEAD = b"*filter\n:INPUT DROP [0:0]\n:FORWARD ACCEPT [0:0]\n:OUTPUT ACCEPT [0:0]\n:local - [0:0]\n"
 LIMITED = b"-A INPUT -p tcp -m tcp --dport ssh -m limit --limit 3/min -j ACCEPT\n"
@@ -223,7 +225,11 @@ ROWS = [
 ]
 
 
-def whole_rows(rows):
-    """Runs each of them."""
+def whole_rows():
     for about, words, files, given, due, status, messages in ROWS:
-        rows.row(f"conditions: {about}", words, files, due, status, messages, input=given)
+        yield Row(about, words, files, due, status, messages, given)
+
+
+@each(whole_rows)
+def test_whole(row, iptaudit):
+    iptaudit.check(row)
