@@ -11,7 +11,6 @@ pub mod CallLaws
 pub mod CandidateLaws
 pub mod ChoiceLaws
 pub mod CollectLaws
-pub mod ComeLaws
 pub mod CompareLaws
 pub mod CountLaws
 pub mod DeleteLaws
@@ -20,6 +19,7 @@ pub mod ElsewhereLaws
 pub mod EndLaws
 pub mod EqualLaws
 pub mod ExactLaws
+pub mod FirstLaws
 pub mod ForeignLaws
 pub mod GroupLaws
 pub mod HeldLaws
@@ -28,9 +28,9 @@ pub mod IndexLaws
 pub mod LeadLaws
 pub mod LeastNameLaws
 pub mod LengthLaws
+pub mod LetInLaws
 pub mod LineLaws
 pub mod LineStepLaws
-pub mod LookLaws
 pub mod LyingLaws
 pub mod MeetingLaws
 pub mod NecessaryLaws
@@ -56,11 +56,12 @@ pub mod StrayLaws
 pub mod TakerLaws
 pub mod TrailLaws
 pub mod TransportLaws
+pub mod TryLaws
 pub mod VerdictLaws
 pub mod WaitLaws
+pub mod WalkedLaws
 pub mod WalksLaws
 pub mod WayLaws
 pub mod WhyLaws
 pub mod WithoutLaws
-pub mod WitnessLaws
 pub mod WrittenLaws

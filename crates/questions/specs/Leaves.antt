@@ -39,10 +39,6 @@ ShowsWalk t box p leaf = IsIn leaf.area p → IsIn box p × (walk t p ≡ walked
 abbrev pub AreExactOn : Table → Hook → List SpanSet → List Leaf → Type 0
 AreExactOn t hook box leaves = (p : Packet) → IsAtHook p → p.hook ≡ hook → All (ShowsWalk t box p) leaves
 
--- each packet of the leaf's box that can be at the hook has the walk that the leaf shows
-abbrev pub IsShownBy : Table → Hook → Leaf → Type 0
-IsShownBy t hook leaf = (p : Packet) → IsAtHook p → p.hook ≡ hook → IsIn leaf.area p → walk t p ≡ walked_of t.chains leaf
-
 -- each packet of the box that can be at the hook is in some leaf, and its walk is the one that this leaf shows
 abbrev pub AreLeavesOf : Table → Hook → List SpanSet → List Leaf → Type 0
 AreLeavesOf t hook box leaves = (p : Packet) → IsAtHook p → p.hook ≡ hook → IsIn box p → Any (EndsIn t p) leaves

@@ -6,7 +6,6 @@ pub mod Branches
 pub mod Candidates
 pub mod Chosen
 pub mod Collected
-pub mod Coming
 pub mod Compared
 pub mod Deciding
 pub mod Exact
@@ -20,7 +19,6 @@ pub mod Outlines
 pub mod Parted
 pub mod Remaining
 pub mod Sampled
-pub mod Searched
 pub mod Seeking
 pub mod Shared
 pub mod Sides
@@ -28,6 +26,8 @@ pub mod Straying
 pub mod Taken
 pub mod Takers
 pub mod Transports
+pub mod Tried
 pub mod Tries
 pub mod Waiting
+pub mod Walked
 pub mod Ways

@@ -1,6 +1,6 @@
 //! The questions about all packets, and their answers.
+pub(crate) mod alone;
 pub(crate) mod changes;
-pub(crate) mod coming;
 pub(crate) mod compare;
 pub(crate) mod equal;
 pub(crate) mod exact;
@@ -21,4 +21,3 @@ pub(crate) mod takers;
 pub(crate) mod verdicts;
 pub(crate) mod walks;
 pub(crate) mod ways;
-pub(crate) mod witness;

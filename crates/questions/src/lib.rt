@@ -1,6 +1,6 @@
 //! Questions about all packets: whether a rule can match at all, and why not; whether two rulesets treat every packet
 //! alike; and the verdicts of a set of packets. A box of packets walks the table as a whole, and is cut where a rule
-//! matches some of its packets.
+//! matches some of its packets. A packet that comes to a rule is sought by walks of single packets.
 #![tactic(auto)]
 
 mod asked;

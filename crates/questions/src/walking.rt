@@ -1,5 +1,6 @@
 //! The walk of whole boxes through a table.
 pub(crate) mod ahead;
+pub(crate) mod course;
 pub(crate) mod engine;
 pub(crate) mod front;
 pub(crate) mod lengths;

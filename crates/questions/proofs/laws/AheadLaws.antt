@@ -1,43 +1,37 @@
--- Rules ahead of a walk in a chain: those that are passed at once, and one that takes its packet.
-use Rattle.std.proofs.Common.{◌≡◌, ◌⊎◌, inl, inr, ℕ, zero, suc, ◌+◌, ◌-◌, ◌<◌, ◌≤◌, true, false, cond, List, [], ◌∷◌, ◌++◌, length, refl, sym, ◌∙◌, ap, arith, subst, Option, Some, None, Contains}
-use Rattle.std.specs.Prelude.{slice_get}
-use Rattle.std.proofs.Math.Dec.{ltb}
-use Rattle.std.proofs.lemmas.Bool.{cases_lt, cond-true, cond-false, lt-ltb, le-ltb, true≢false}
-use Rattle.std.proofs.lemmas.List.{length-append}
-use Rattle.std.proofs.lemmas.List.Elements.{Contains-append_left, Contains-push_cases}
-use Rattle.std.proofs.lemmas.Option.{slice_get-get_or, slice_get_past}
-use Rattle.fields.specs.packet.Packet.{PacketView as Packet}
-use Rattle.rules.specs.declared.rule.target.Target.{Target}
-use Rattle.rules.specs.declared.rule.target.Target.TheVariants as target
-use Rattle.rules.specs.rule.Actions.{target_of}
+-- Rules ahead of a walk in a chain that are passed at once.
+use Rattle.std.proofs.Common.{◌≡◌, ◌⊎◌, inl, inr, ℕ, zero, suc, ◌+◌, ◌-◌, ◌<◌, ◌≤◌, false, List, [], ◌∷◌, ◌++◌, length, refl, sym, ◌∙◌, ap, arith, subst, Option, Some, None, get_or, Vec, Global}
+use Rattle.std.specs.Prelude.{slice_get, IsFalse}
+use Rattle.std.proofs.lemmas.Bool.{cases_lt}
+use Rattle.std.proofs.lemmas.List.{get_or_default}
+use Rattle.std.proofs.lemmas.List.Elements.{Contains-get_or}
+use Rattle.std.proofs.lemmas.Option.{slice_get-get_or, get_or_from_slice_get}
 use Rattle.rules.specs.rule.Allows.{matches}
 use Rattle.rules.specs.rule.Rules.{Rule, empty_rule}
-use Rattle.table.specs.chains.Table.{Chain, Table, rules_of}
-use Rattle.table.specs.declared.verdict.Verdict.{Verdict}
-use Rattle.table.specs.declared.verdict.Verdict.TheVariants as verdict
-use Rattle.table.specs.declared.verdict.Verdict.TheVariants.{TooLong}
-use Rattle.table.specs.walk.Cases.{Stage, Under, Over, next_rule, behind, with_next, on_by, StepsTo, GoesTo}
-use Rattle.table.specs.walk.Walk.{Rest, Entry, Next, Ends, GoesOn, Walked, after_match, end_verdict, too_long, walk}
-use Rattle.table.proofs.laws.walk.CaseLaws.{walks_by_cases}
-use Rattle.questions.specs.steps.Ahead.{Decides, IsTakenAhead, NeverComesTo, NoneMatches, PassesAtOnce, Stays}
-use Rattle.questions.specs.steps.Coming.{IsSought}
-use Rattle.questions.specs.steps.Waiting.{Reaches}
-use Rattle.questions.proofs.laws.WaitLaws.{reaches_more}
-use Rattle.questions.proofs.laws.WithoutLaws.{ended, from, under_over}
+use Rattle.table.specs.chains.Table.{Chain, Table, rules_of, chain_at, empty_chain}
+use Rattle.table.specs.walk.Cases.{Stage, Under}
+use Rattle.table.specs.walk.Walk.{Rest, Entry}
+use Rattle.questions.specs.steps.Ahead.{NoneMatches, PassesAtOnce, IsApartIn}
+use Rattle.questions.specs.steps.Waiting.{Reaches, IsThere, rest_of, rule_ahead, WaitsIn, rests_of}
+use Rattle.questions.proofs.laws.WaitLaws.{reaches_more, rests_push}
+use Rattle.fields.specs.numbers.Spans.{SpanSet}
+use Rattle.fields.specs.packet.Packet.{PacketView as Packet}
+use Rattle.table.specs.chains.Sound.{IsSound}
+use Rattle.table.specs.declared.walk.trail.Step.{Step}
+use Rattle.table.proofs.laws.chains.KeepLaws.{rules_by_name}
+use Rattle.questions.specs.Foreign.{Assignment, needs_at, resolved}
+use Rattle.questions.specs.Leaves.{name_at}
+use Rattle.questions.specs.boxes.Area.{IsAtHook, IsIn}
+use Rattle.questions.specs.declared.foreign.need.Need.{Need}
+use Rattle.questions.specs.declared.walking.scope.Scope.{Scope}
+use Rattle.questions.specs.declared.walking.task.Pending.{Pending}
+use Rattle.questions.proofs.laws.ForeignLaws.{left_sound}
+use Rattle.questions.proofs.laws.ResolvedLaws.{resolved_apart, rule_left, there_left}
+use Rattle.questions.specs.Scopes.{IsOf, Known, entries_by}
+use Rattle.questions.specs.declared.walking.task.Task.{Task}
 
 -- a place of a list has an element, or is past its end
 here_or_past : (rules : List Rule) (k : ℕ) → k < length rules → (rule : Rule) × (slice_get rules k ≡ Some rule)
 here_or_past rules k lt = (_, slice_get-get_or rules k empty_rule lt)
-
-some_within : (rules : List Rule) (k : ℕ) (rule : Rule) → slice_get rules k ≡ Some rule → k < length rules
-some_within rules k rule at =
-    elim (cases_lt k (length rules)) [
-      | inl lt ↦ lt
-      | inr past ↦ absurd (none_some (sym (slice_get_past rules k past) ∙ at))
-    ]
-  where
-    none_some : ◌≡◌ {A = Option Rule} None (Some rule) → ⊥
-    none_some e = cc
 
 -- ---- rules that don't match
 
@@ -63,196 +57,104 @@ passes_at_once t p rest place waiting trail low high none r =
     let P : ℕ → Type 0 = λ k. Reaches t p (to k) in
     subst P e (passes_some t p rest.chain waiting trail n rest.passed (omega (arith, e, high)) (λ k rule lo hi at. none k rule lo (omega (arith, e, hi)) at) r)
 
--- ---- a walk goes one way
+-- ---- the next rule
 
-module _ (cs : List Chain) (policy : Verdict) (values : List ℕ) where
-  abbrev stage_by : Option Rule → Rest → List Rest → List Entry → Stage
-  stage_by None rest waiting trail = Under waiting trail
-  stage_by (Some rule) rest waiting trail =
-      cond (matches values rule) (cond (ltb (length trail) 65536) (on_by (after_match (target_of rule) (behind rest) waiting) (with_next trail rest)) (Over too_long))
-      (Under (behind rest ∷ waiting) trail)
+-- a rule that was asked for is the next one
+pub rule_here : (t : Table) (at : Pending) (rule : Rule) → at.passed < length (chain_at t at.chain).rules → rule ≡ get_or (chain_at t at.chain).rules (at.passed + 1 - 1) rule → rule ≡ rule_ahead t at
+rule_here t at rule lt is =
+    is ∙ ap (λ j. get_or (chain_at t at.chain).rules j rule) (omega arith) ∙ get_or_default (chain_at t at.chain).rules at.passed rule empty_rule lt
 
-  step_is : (rest : Rest) (waiting : List Rest) (trail : List Entry) (next : Stage) → StepsTo cs policy values (Under (rest ∷ waiting) trail) next → next ≡ stage_by (next_rule cs rest) rest waiting trail
-  step_is rest waiting trail next (inl p) =
-      p.3 ∙ sym (ap (λ o. stage_by o rest waiting trail) p.1 ∙ cond-false (matches values p.0) _ _ p.2)
-  step_is rest waiting trail next (inr (inl p)) =
-      p.4 ∙ sym (ap (λ o. stage_by o rest waiting trail) p.1 ∙ cond-true (matches values p.0) _ _ p.2 ∙ cond-false (ltb (length trail) 65536) _ _ (le-ltb (length trail) 65536 p.3))
-  step_is rest waiting trail next (inr (inr (inl p))) =
-      p.4 ∙ sym (ap (λ o. stage_by o rest waiting trail) p.1 ∙ cond-true (matches values p.0) _ _ p.2 ∙ cond-true (ltb (length trail) 65536) _ _ (lt-ltb (length trail) 65536 p.3))
-  step_is rest waiting trail next (inr (inr (inr p))) = p.1 ∙ sym (ap (λ o. stage_by o rest waiting trail) p.0)
+-- rules of a chain, once it is known which conditions hold
+module _ (needs : List (List (List Need))) (a : Assignment) (t : Table) (at : Pending) (sound : IsSound t) (there : IsThere t.chains at) where
+  abbrev left : Table
+  left = resolved needs a t
 
-  one_step : (now a b : Stage) → StepsTo cs policy values now a → StepsTo cs policy values now b → a ≡ b
-  one_step (Under [] trail) a b p q = p ∙ sym q
-  one_step (Under (rest ∷ waiting) trail) a b p q = step_is rest waiting trail a p ∙ sym (step_is rest waiting trail b q)
-  one_step (Over walked) a b p q = absurd p
+  abbrev own : List Rule
+  own = (chain_at left at.chain).rules
 
-  -- from a stage on its way a walk goes to the same end
-  goes_on : (n m : ℕ) (now mid : Stage) (w : Walked) → GoesTo n cs policy values now mid → GoesTo m cs policy values now (Over w) → (k : ℕ) × GoesTo k cs policy values mid (Over w)
-  goes_on zero m now mid w g h = let P : Stage → Type 0 = λ s. GoesTo m cs policy values s (Over w) in (m, subst P g h)
-  goes_on (suc n) zero now mid w g h = let P : Stage → Type 0 = λ s. StepsTo cs policy values s g.0 in absurd (subst P h g.1)
-  goes_on (suc n) (suc m) now mid w g h =
-      let P : Stage → Type 0 = λ s. GoesTo m cs policy values s (Over w) in
-      goes_on n m g.0 mid w g.2 (subst P (sym (one_step now g.0 h.0 g.1 h.1)) h.2)
+  abbrev next : ℕ → Pending
+  next k = record { chain = at.chain; passed = k }
 
-  -- ---- what is on the trail stays there
+  same : rules_of left.chains (name_at left.chains at.chain) ≡ own
+  same = rules_by_name left (chain_at left at.chain) (left_sound needs a t sound) (Contains-get_or left.chains at.chain (empty_chain []) (there_left needs a t at.chain there))
 
-  module _ (entry : Entry) where
-    -- the entry is on the trail, or the walk was too long
-    abbrev HasIt : Stage → Type 0
-    HasIt (Under rests trail) = Contains trail entry
-    HasIt (Over w) = Contains w.trail entry ⊎ (w.verdict ≡ TooLong)
+  get : (k : ℕ) → slice_get (rules_of left.chains (name_at left.chains at.chain)) k ≡ slice_get own k
+  get k = ap (λ (rs : List Rule). slice_get rs k) same
 
-    put_on : (next : Next) (trail : List Entry) → Contains trail entry → HasIt (on_by next trail)
-    put_on (Ends v) trail c = inl c
-    put_on (GoesOn rests) trail c = c
+  -- one that matches none of two boxes still matches none
+  pub still_apart : (start box : List SpanSet) (k : ℕ) → k < length (chain_at t at.chain).rules → IsApartIn (rule_ahead t (next k)) start box → IsApartIn (rule_ahead left (next k)) start box
+  still_apart start box k within apart = λ numbers point first has.
+      (let P : Rule → Type 0 = λ r. matches numbers r ≡ false in
+      subst P (sym (rule_left needs a t at.chain k there within empty_rule)) (resolved_apart a (needs_at needs at.chain k) (rule_ahead t (next k)) numbers (apart numbers point first has)))
 
-    has_more : (now next : Stage) → StepsTo cs policy values now next → HasIt now → HasIt next
-    has_more (Under [] trail) next e c = subst HasIt (sym e) (inl c)
-    has_more (Under (rest ∷ waiting) trail) next (inl p) c = subst HasIt (sym p.3) c
-    has_more (Under (rest ∷ waiting) trail) next (inr (inl p)) c = subst HasIt (sym p.4) (inr refl)
-    has_more (Under (rest ∷ waiting) trail) next (inr (inr (inl p))) c =
-        subst HasIt (sym p.4) (put_on (after_match (target_of p.0) (behind rest) waiting) (with_next trail rest) (Contains-append_left trail (record { chain = rest.chain; number = rest.passed + 1 } ∷ []) entry c))
-    has_more (Under (rest ∷ waiting) trail) next (inr (inr (inr p))) c = subst HasIt (sym p.1) c
-    has_more (Over w) next s c = absurd s
+-- what holds from a place up to another one, and there
+pub below_next : (P : ℕ → Type 0) (low n : ℕ) → ((k : ℕ) → low ≤ k → k < n → P k) → P n → (k : ℕ) → low ≤ k → k < n + 1 → P k
+below_next P low n below here k lo hi =
+    elim (cases_lt k n) [
+      | inl lt ↦ below k lo lt
+      | inr le ↦ subst P (omega (arith, le, hi)) here
+    ]
 
-    has_at_end : (n : ℕ) (now : Stage) (w : Walked) → GoesTo n cs policy values now (Over w) → HasIt now → HasIt (Over w)
-    has_at_end zero now w g c = subst HasIt g c
-    has_at_end (suc n) now w g c = has_at_end n g.0 w g.2 (has_more now g.0 g.1 c)
+-- and up to the next one, where it holds in between
+pub past_next : (P : ℕ → Type 0) (low n next : ℕ) → ((k : ℕ) → low ≤ k → k < n + 1 → P k) → ((k : ℕ) → n + 1 ≤ k → k < next → P k) → (k : ℕ) → low ≤ k → k < next → P k
+past_next P low n next below between k lo hi =
+    elim (cases_lt k (n + 1)) [
+      | inl lt ↦ below k lo lt
+      | inr le ↦ between k le hi
+    ]
 
-  -- ---- a rule ahead that takes the packet
+-- ---- the newest rest
 
-  module _ (entry : Entry) where
-    -- what the trail of a walk that is over has, it had; and the walk isn't too long
-    abbrev HadIt : List Entry → Walked → Type 0
-    HadIt trail w = Contains w.trail entry ⊎ (w.verdict ≡ TooLong) → Contains trail entry
+split_last : (xs : List Pending) (a : Pending) → slice_get xs (length xs - 1) ≡ Some a → (init : List Pending) × (xs ≡ init ++ a ∷ [])
+split_last [] a e = absurd (none_some e)
+  where
+    none_some : ◌≡◌ {A = Option Pending} None (Some a) → ⊥
+    none_some e = cc
+split_last (x ∷ []) a e = ([], ap (λ (y : Pending). y ∷ []) (some_is e))
+  where
+    some_is : ◌≡◌ {A = Option Pending} (Some x) (Some a) → x ≡ a
+    some_is e = cc
+split_last (x ∷ y ∷ zs) a e =
+    let i : length (x ∷ y ∷ zs) - 1 ≡ suc (length zs) = omega arith in
+    let j : length (y ∷ zs) - 1 ≡ length zs = omega arith in
+    let r = split_last (y ∷ zs) a (ap (slice_get (y ∷ zs)) j ∙ ap (slice_get (x ∷ y ∷ zs)) (sym i) ∙ e) in
+    (x ∷ r.0, ap (λ (ys : List Pending). x ∷ ys) r.1)
 
-    no_more : (trail : List Entry) (e : Entry) → (entry ≡ e → ⊥) → Contains (trail ++ e ∷ []) entry → Contains trail entry
-    no_more trail e other c =
-        elim (Contains-push_cases trail e entry c) [
-          | inl there ↦ there
-          | inr is ↦ absurd (other (sym is))
-        ]
+under_rest : (cs : List Chain) (rests init : List Pending) (at : Pending) (es : List Entry) → rests ≡ init ++ at ∷ [] → Under (rests_of cs rests) es ≡ Under (rest_of cs at ∷ rests_of cs init) es
+under_rest cs rests init at es e = ap (λ (rs : List Rest). Under rs es) (ap (rests_of cs) e ∙ rests_push cs init at)
 
-    -- a rule that decides ends the walk
-    abbrev EndsShort : List Entry → Walked → Type 0
-    EndsShort trail w = (w.trail ≡ trail) × (w.verdict ≡ TooLong → ⊥)
-
-    ends_with : (n : ℕ) (v : Verdict) (trail : List Entry) (w : Walked) → (v ≡ TooLong → ⊥) → GoesTo n cs policy values (Over (record { trail = trail; verdict = v; by_policy = false })) (Over w) → EndsShort trail w
-    ends_with n v trail w short g =
-        let is = ended cs policy values n (record { trail = trail; verdict = v; by_policy = false }) w g in
-        (sym (ap (λ (x : Walked). x.trail) is), λ long. short (ap (λ (x : Walked). x.verdict) is ∙ long))
-
-    decided : (n : ℕ) (to : Option Target) (own : Rest) (waiting : List Rest) (trail : List Entry) (w : Walked) → Decides to → GoesTo n cs policy values (on_by (after_match to own waiting) trail) (Over w) → EndsShort trail w
-    decided n None own waiting trail w d g = absurd d
-    decided n (Some target.Log) own waiting trail w d g = absurd d
-    decided n (Some target.Return) own waiting trail w d g = absurd d
-    decided n (Some (target.Jump chain)) own waiting trail w d g = absurd d
-    decided n (Some (target.Goto chain)) own waiting trail w d g = absurd d
-    decided n (Some target.Accept) own waiting trail w d g = ends_with n verdict.Accept trail w accept_short g
-      where
-        accept_short : verdict.Accept ≡ TooLong → ⊥
-        accept_short e = cc
-    decided n (Some target.Drop) own waiting trail w d g = ends_with n verdict.Drop trail w drop_short g
-      where
-        drop_short : verdict.Drop ≡ TooLong → ⊥
-        drop_short e = cc
-    decided n (Some (target.Reject kind)) own waiting trail w d g = ends_with n (verdict.Reject kind) trail w reject_short g
-      where
-        reject_short : verdict.Reject kind ≡ TooLong → ⊥
-        reject_short e = cc
-
-    stays_there : (to : Option Target) (own : Rest) (waiting : List Rest) (trail : List Entry) → Stays to → on_by (after_match to own waiting) trail ≡ Under (own ∷ waiting) trail
-    stays_there None own waiting trail s = refl
-    stays_there (Some target.Log) own waiting trail s = refl
-    stays_there (Some target.Accept) own waiting trail s = absurd s
-    stays_there (Some target.Drop) own waiting trail s = absurd s
-    stays_there (Some (target.Reject kind)) own waiting trail s = absurd s
-    stays_there (Some target.Return) own waiting trail s = absurd s
-    stays_there (Some (target.Jump chain)) own waiting trail s = absurd s
-    stays_there (Some (target.Goto chain)) own waiting trail s = absurd s
-
-    some_same : (a b : Rule) → ◌≡◌ {A = Option Rule} (Some a) (Some b) → a ≡ b
-    some_same a b e = cc
-
-    none_some : (a : Rule) → ◌≡◌ {A = Option Rule} None (Some a) → ⊥
-    none_some a e = cc
-
-    -- one rule further, it is still ahead, and as near
-    still_ahead : (rest : Rest) (room : ℕ) (t : IsTakenAhead cs values rest room entry) → rest.passed < t.place → IsTakenAhead cs values (behind rest) (room - 1) entry
-    still_ahead rest room t lt = record {
-      place = t.place;
-      rule = t.rule;
-      ahead = omega (arith, lt);
-      near = omega (arith, lt, t.near);
-      there = t.there;
-      matched = t.matched;
-      decides = t.decides;
-      before = λ k other low high at m. t.before k other (omega (arith, low)) high at m;
-      apart = λ k low high is. t.apart k (omega (arith, low)) high is;
+-- the newest rest goes on to a rule, past others that match no packet that the task's box and another one have
+pub advances : (t : Table) (known : Known) (start : List SpanSet) (p : Packet) (sound : IsSound t) (task next : Task) (init : List Pending) (at : Pending) (passed : ℕ) → IsThere t.chains at → IsAtHook p → IsIn start p → task.rests.items ≡ init ++ at ∷ []
+    → next.rests.items ≡ init ++ record { chain = at.chain; passed = passed } ∷ [] → next.scope ≡ task.scope → next.trail ≡ task.trail → at.passed ≤ passed → (passed ≡ at.passed) ⊎ (passed ≤ length (chain_at t at.chain).rules)
+    → ((k : ℕ) → at.passed ≤ k → k < passed → IsApartIn (rule_ahead t (record { chain = at.chain; passed = k })) start task.scope.area) → WaitsIn t known p task → WaitsIn t known p next
+advances t known start p sound task next init at passed there can inside before after scope trail low high none waits =
+    let own : List Rule = (chain_at t at.chain).rules in
+    let same : rules_of t.chains (name_at t.chains at.chain) ≡ own = rules_by_name t (chain_at t at.chain) sound (Contains-get_or t.chains at.chain (empty_chain []) there) in
+    let es : List Entry = entries_by known t.chains task.trail.items in
+    let P : Stage → Type 0 = λ s. Reaches t p s in
+    let Q : Scope → Type 0 = λ b. IsOf known p b in
+    let R : Rule → Type 0 = λ r. IsFalse (matches p.values r) in
+    let apart : (k : ℕ) (rule : Rule) → at.passed ≤ k → k < passed → slice_get (rules_of t.chains (name_at t.chains at.chain)) k ≡ Some rule → IsFalse (matches p.values rule) =
+    λ k rule lo hi found.
+    (let is : get_or own k empty_rule ≡ rule = get_or_from_slice_get own k rule empty_rule (sym (ap (λ (rs : List Rule). slice_get rs k) same) ∙ found) in
+    subst R is (none k lo hi p.values can.packet.within inside waits.own.inside)) in
+    let moved : Reaches t p (Under (rest_of t.chains (record { chain = at.chain; passed = passed }) ∷ rests_of t.chains init) es) =
+    (let stands : Reaches t p (Under (rest_of t.chains at ∷ rests_of t.chains init) es) = subst P (under_rest t.chains task.rests.items init at es before) waits.reaches in
+    elim high [
+      | inl still ↦
+          (let S : ℕ → Type 0 = λ j. Reaches t p (Under (rest_of t.chains (record { chain = at.chain; passed = j }) ∷ rests_of t.chains init) es) in
+          subst S (sym still) stands)
+      | inr le ↦ passes_at_once t p (rest_of t.chains at) passed (rests_of t.chains init) es low (omega (arith, le, ap (λ (rs : List Rule). length rs) same)) apart stands
+    ]) in
+    let there_now : Reaches t p (Under (rests_of t.chains next.rests.items) es) = subst P (sym (under_rest t.chains next.rests.items init (record { chain = at.chain; passed = passed }) es after)) moved in
+    record {
+      own = subst Q (sym scope) waits.own;
+      reaches = subst P (ap (λ (steps : List Step). Under (rests_of t.chains next.rests.items) (entries_by known t.chains steps)) (sym (ap items_of trail))) there_now;
     }
+  where
+    items_of : Vec Step Global → List Step
+    items_of v = v.items
 
-    at_place : (rest : Rest) (room : ℕ) (t : IsTakenAhead cs values rest room entry) (rule : Rule) → (rest.passed < t.place → ⊥) → next_rule cs rest ≡ Some rule → t.rule ≡ rule
-    at_place rest room t rule past at =
-        let here : t.place ≡ rest.passed = elim (cases_lt rest.passed t.place) [ inl lt ↦ absurd (past lt) | inr le ↦ omega (arith, le, t.ahead) ] in
-        some_same t.rule rule (sym t.there ∙ ap (slice_get (rules_of cs rest.chain)) here ∙ at)
-
-    abbrev TakenFrom : ℕ → Type 0
-    TakenFrom n = (rest : Rest) (waiting : List Rest) (trail : List Entry) (room : ℕ) (w : Walked) → length trail + room ≤ 65536 → IsTakenAhead cs values rest room entry → GoesTo n cs policy values (Under (rest ∷ waiting) trail) (Over w) → HadIt trail w
-
-    -- at a rule that matches
-    at_match : (n : ℕ) (rest : Rest) (waiting : List Rest) (trail : List Entry) (room : ℕ) (w : Walked) (rule : Rule) → TakenFrom n → length trail + room ≤ 65536 → IsTakenAhead cs values rest room entry → next_rule cs rest ≡ Some rule → matches values rule ≡ true
-        → GoesTo n cs policy values (on_by (after_match (target_of rule) (behind rest) waiting) (with_next trail rest)) (Over w) → HadIt trail w
-    at_match n rest waiting trail room w rule all few t at m g sought =
-        let here : Entry = record { chain = rest.chain; number = rest.passed + 1 } in
-        let other : entry ≡ here → ⊥ = t.apart rest.passed (omega arith) t.ahead in
-        let ends : Decides (target_of rule) → Contains trail entry = λ d.
-        (let P : List Entry → Type 0 = λ es. Contains es entry in
-        let short = decided n (target_of rule) (behind rest) waiting (with_next trail rest) w d g in
-        elim sought [
-          | inl c ↦ no_more trail here other (subst P short.0 c)
-          | inr long ↦ absurd (short.1 long)
-        ]) in
-        elim (cases_lt rest.passed t.place) [
-          | inr le ↦
-              (let Q : Rule → Type 0 = λ r. Decides (target_of r) in
-              ends (subst Q (at_place rest room t rule (λ lt. omega (arith, le, lt)) at) t.decides))
-          | inl lt ↦ elim (t.before rest.passed rule (omega arith) lt at m) [
-            | inl d ↦ ends d
-            | inr s ↦ no_more trail here other
-                (all (behind rest) waiting (with_next trail rest) (room - 1) w (omega (arith, few, lt, t.near, length-append trail (here ∷ []))) (still_ahead rest room t lt)
-                (from cs policy values n _ _ w (stays_there (target_of rule) (behind rest) waiting (with_next trail rest) s) g) sought)
-          ]
-        ]
-
-    taken : (n : ℕ) → TakenFrom n
-    taken zero rest waiting trail room w few t g sought = absurd (under_over cs policy values (rest ∷ waiting) trail w g)
-    taken (suc n) rest waiting trail room w few t g sought =
-        elim g.1 [
-          | inl p ↦ elim (cases_lt rest.passed t.place) [
-            | inl lt ↦ taken n (behind rest) waiting trail (room - 1) w (omega (arith, few)) (still_ahead rest room t lt) (from cs policy values n g.0 _ w p.3 g.2) sought
-            | inr le ↦ absurd (true≢false (sym t.matched ∙ ap (matches values) (at_place rest room t p.0 (λ lt. omega (arith, le, lt)) p.1) ∙ p.2))
-          ]
-          | inr q ↦ elim q [
-            | inl p ↦ absurd (omega (arith, p.3, few, t.near, t.ahead))
-            | inr r ↦ elim r [
-              | inl p ↦ at_match n rest waiting trail room w p.0 (taken n) few t p.1 p.2 (from cs policy values n g.0 _ w p.4 g.2) sought
-              | inr p ↦
-                  (let within : t.place < length (rules_of cs rest.chain) = some_within (rules_of cs rest.chain) t.place t.rule t.there in
-                  let one = here_or_past (rules_of cs rest.chain) rest.passed (omega (arith, within, t.ahead)) in
-                  absurd (none_some one.0 (sym p.0 ∙ one.1)))
-            ]
-          ]
-        ]
-
-pub never_comes_to : NeverComesTo
-never_comes_to t p rest waiting trail room entry reaches few taken_ahead sought =
-    let walks = walks_by_cases t p in
-    let on = goes_on t.chains (end_verdict t p) p.values reaches.0 walks.0 _ (Under (rest ∷ waiting) trail) (walk t p) reaches.1 walks.1 in
-    taken t.chains (end_verdict t p) p.values entry on.0 rest waiting trail room (walk t p) few taken_ahead on.1 sought
-
--- a walk that comes to a stage with an entry on its trail has the entry, or is too long
-pub sought_from : (t : Table) (p : Packet) (rests : List Rest) (trail : List Entry) (entry : Entry) → Reaches t p (Under rests trail) → Contains trail entry → IsSought t entry p
-sought_from t p rests trail entry reaches on =
-    let walks = walks_by_cases t p in
-    let to = goes_on t.chains (end_verdict t p) p.values reaches.0 walks.0 _ (Under rests trail) (walk t p) reaches.1 walks.1 in
-    has_at_end t.chains (end_verdict t p) p.values entry to.0 (Under rests trail) (walk t p) to.1 on
+pub high_left : (at passed count left : ℕ) → left ≡ count → (passed ≡ at) ⊎ (passed ≤ count) → (passed ≡ at) ⊎ (passed ≤ left)
+high_left at passed count left same (inl is) = inl is
+high_left at passed count left same (inr le) = inr (omega (arith, le, same))

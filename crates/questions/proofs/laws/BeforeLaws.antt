@@ -32,8 +32,7 @@ use Rattle.questions.specs.asked.Necessary.{AreEnough}
 use Rattle.questions.specs.declared.foreign.answers.Answer.{Answer}
 use Rattle.questions.specs.declared.foreign.need.Need.{Need}
 use Rattle.questions.specs.declared.foreign.subject.Subject.{Subject}
-use Rattle.questions.specs.steps.Before.{AreMetBefore, IsMetThere, LeavesThere, StaysThere, step_at}
-use Rattle.questions.specs.steps.Coming.{IsSought}
+use Rattle.questions.specs.steps.Before.{AreMetBefore, IsMetThere, LeavesThere, StaysThere, step_at, IsSought}
 use Rattle.questions.specs.steps.Lengths.{number_of}
 use Rattle.questions.specs.steps.Meant.{needs_of}
 use Rattle.questions.specs.steps.Straying.{place_of}

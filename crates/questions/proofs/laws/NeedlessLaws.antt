@@ -1,6 +1,7 @@
 -- Tables in which no rule needs anything.
-use Rattle.std.proofs.Common.{◌≡◌, ℕ, zero, suc, List, [], ◌∷◌, get_or, refl, All, Vec, Global}
-use Rattle.std.specs.Prelude.{map}
+use Rattle.std.proofs.Common.{◌≡◌, inl, inr, ℕ, zero, suc, Bool, false, List, [], ◌∷◌, get_or, refl, All, Vec, Global}
+use Rattle.std.specs.Prelude.{◌↔◌, map, IsTrue}
+use Rattle.std.proofs.lemmas.Bool.{cases_Bool}
 use Rattle.std.proofs.lemmas.List.Elements.{All-cons, All-head, All-nil, All-tail}
 use Rattle.questions.specs.Foreign.{AreWithoutNeeds}
 use Rattle.questions.specs.declared.foreign.need.Need.{Need}
@@ -41,3 +42,13 @@ free_without (chain ∷ chains) all (suc place) passed = free_without chains (Al
 pub without_free : (chains : List (Vec (Vec Need Global) Global)) → AreWithoutNeeds (listed chains) → All IsFree chains
 without_free [] none = All-nil IsFree
 without_free (chain ∷ chains) none = All-cons IsFree chain chains (at_empty chain.items (λ passed. none zero passed)) (without_free chains (λ place passed. none (suc place) passed))
+
+-- what is told of the lists is true of what they say
+pub told_free : (chains : List (Vec (Vec Need Global) Global)) (told : Bool) → (IsTrue told → All IsFree chains) → (told ≡ false → All IsFree chains → ⊥) → IsTrue told ↔ AreWithoutNeeds (listed chains)
+told_free chains told free some = (
+  λ is. free_without chains (free is),
+  λ none. elim (cases_Bool told) [
+    | inl is ↦ is
+    | inr off ↦ absurd (some off (without_free chains none))
+  ],
+)

@@ -161,9 +161,6 @@ module _ (needs : List (List (List Need))) (a : Assignment) (t : Table) where
   pub all_left : (rests : List Pending) → All (IsThere t.chains) rests → All (IsThere left.chains) rests
   all_left rests all = λ k d lt. there_left (get_or rests k d).chain (all k d lt)
 
-  pub front_left : (front : Front) → AllThere t.chains front → AllThere left.chains front
-  front_left front all = λ k d lt j e less. omega (arith, length_same needs a t.chains, all k d lt j e less)
-
   pub front_back : (front : Front) → AllThere left.chains front → AllThere t.chains front
   front_back front all = λ k d lt j e less. omega (arith, length_same needs a t.chains, all k d lt j e less)
 

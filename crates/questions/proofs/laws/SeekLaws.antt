@@ -28,7 +28,7 @@ use Rattle.questions.specs.Foreign.{Agrees, Assignment, all_hold, need_holds, ne
 use Rattle.questions.specs.Leaves.{entry_of, name_at}
 use Rattle.questions.specs.Scopes.{answered, table_of}
 use Rattle.questions.specs.asked.Always.{IsAlwaysDeadAt}
-use Rattle.questions.specs.boxes.Area.{IsAtHook, IsBoth, IsIn}
+use Rattle.questions.specs.boxes.Area.{Has, IsAtHook, IsBoth, IsIn}
 use Rattle.questions.specs.boxes.Cut.{IsCut, IsInSome, IsPartedFor}
 use Rattle.questions.specs.declared.foreign.answers.Answer.{Answer}
 use Rattle.questions.specs.declared.foreign.need.Need.{Need}
@@ -37,7 +37,8 @@ use Rattle.questions.specs.declared.walking.scope.Scope.{Scope}
 use Rattle.questions.specs.steps.Answered.{IsMeeting, MeetsNever}
 use Rattle.questions.specs.steps.Meant.{IsScopeAt, needs_of}
 use Rattle.questions.specs.steps.Takers.{IsMatchedAt}
-use Rattle.questions.specs.steps.Seeking.{AddsBoxes, AddsParts, IsHere, IsLeftIn, IsSameScope, AllWant, AreAllWays, EndsAt, IsAheadOn, IsPlaceOf, IsTakenBy, KeepsIn, KeepsWanted, LeadsAwayAt, MayCome, NoneAheadTakesOut, TakesScopes, TakesBy, TakesOver, chains_of, top_of}
+use Rattle.questions.specs.steps.Seeking.{AddsBoxes, AddsParts, AllMatch, IsHere, IsLeftIn, IsSameScope, AllWant, AreAllWays, EndsAt, IsAheadOn, IsPlaceOf, IsTakenBy, KeepsIn, KeepsWanted, LeadsAwayAt, MayCome, NoneAheadTakesOut, TakesBy, TakesOver, chains_of, top_of}
+use Rattle.questions.specs.steps.Tried.{TakesOn}
 use Rattle.questions.specs.steps.Straying.{Hits, IsLedAway, IsOpenWay, LeadsAway, TakesOut, place_at}
 use Rattle.questions.specs.boxes.Calls.{AreCalls, place_named}
 use Rattle.questions.specs.declared.seeking.calls.Call.{Call}
@@ -217,6 +218,17 @@ split_unmet rule needs scope others old mid new met boxes none = record {
 
 -- ---- the packets of a scope that a rule matches
 
+-- those are in some boxes, which are put under the same answers
+pub parts_matching : (rule : Rule) (scope : Scope) (boxes : List (List SpanSet)) (old new : List Scope) → ((numbers : List ℕ) → IsPoint numbers → matches numbers rule ≡ true → Has scope.area numbers → IsInSome boxes numbers)
+    → AddsBoxes boxes scope.answers old new → AddsParts scope (λ a p. matches p.values rule ≡ true → ⊥) old new
+parts_matching rule scope boxes old new inside adds = record {
+  kept = adds.kept;
+  parted = λ a p at here. elim (cases_Bool (matches p.values rule)) [
+    | inl m ↦ inl (adds.each a p (inside p.values (point_of p at) m here.0) here.1)
+    | inr un ↦ inr (λ m. true≢false (sym m ∙ un))
+  ];
+}
+
 pub met_with_none : (rule : Rule) (needs : List Need) (answers : List Answer) → MeetsNever needs answers → (a : Assignment) → Agrees a answers → IsTrue (all_hold a needs) → ⊥
 met_with_none rule needs answers none a agrees held = true≢false (sym held ∙ none a agrees)
 
@@ -382,15 +394,35 @@ module _ (s : Subject) (sound : IsSound (table_of s)) where
       let make : List ℕ → ℕ → Rest = λ n k. record { chain = n; passed = k } in
       (by, rule_back s.needs.now a own_table by rule, ap (λ n. make n (place.passed + 1 - 1)) there.2 ∙ ap (make place.chain) passed)
 
-  -- it is listed, if it enters the chain at a place
-  pub called : (calls : List Call) (a : Assignment) (values : List ℕ) (by : Step) (o : Option Target) (to : ℕ) → AreCalls own_table calls → to < length own_table.chains → IsRule own_table by
-      → Hits (chains_of s a) values (place_at (chains_of s a) by) o → chain_in o ≡ Some (name_at (chains_of s a) to) → Contains calls (record { to = to; by = by })
-  called calls a values by o to all lt is h names =
+  -- it names the chain at a place which it enters
+  pub names_entered : (a : Assignment) (values : List ℕ) (by : Step) (o : Option Target) (to : ℕ) → to < length own_table.chains → IsRule own_table by → Hits (chains_of s a) values (place_at (chains_of s a) by) o
+      → chain_in o ≡ Some (name_at (chains_of s a) to) → place_named own_table.chains (target_of (rule_at own_table by)) ≡ Some to
+  names_entered a values by o to lt is h names =
       let m = matched_there s a values by o sound is h in
       let name : List ℕ = name_at own_table.chains to in
       let same : name_at (chains_of s a) to ≡ name = chain_named s.needs.now a own_table.chains to (empty_chain []) in
       let P : Option (List ℕ) → Option ℕ = λ x. option_and_then (λ n. position (is_named n) own_table.chains) x in
-      listed own_table calls by to all is (ap (place_named own_table.chains) m.2 ∙ ap P (names ∙ ap Some same) ∙ own_position own_table to name sound lt refl)
+      ap (place_named own_table.chains) m.2 ∙ ap P (names ∙ ap Some same) ∙ own_position own_table to name sound lt refl
+
+  -- it is listed, if it enters the chain at a place
+  pub called : (calls : List Call) (a : Assignment) (values : List ℕ) (by : Step) (o : Option Target) (to : ℕ) → AreCalls own_table calls → to < length own_table.chains → IsRule own_table by
+      → Hits (chains_of s a) values (place_at (chains_of s a) by) o → chain_in o ≡ Some (name_at (chains_of s a) to) → Contains calls (record { to = to; by = by })
+  called calls a values by o to all lt is h names = listed own_table calls by to all is (names_entered a values by o to lt is h names)
+
+  -- ---- what the rules of a way match
+
+  hits_at : (chains : List Chain) (values first chain : List ℕ) (places : List Step) (above : List Rest) (k : ℕ) (place : Step) → k < length places → get_or places k place ≡ place
+      → IsOpenWay chains values first chain (steps_at chains places ++ above) → (o : Option Target) × Hits chains values (place_at chains place) o
+  hits_at chains values first chain [] above k place lt is way = absurd (omega (arith, lt))
+  hits_at chains values first chain (x ∷ places) above zero place lt is way = let P : Step → Type 0 = λ w. (o : Option Target) × Hits chains values (place_at chains w) o in subst P is (way.0, way.1)
+  hits_at chains values first chain (x ∷ places) above (suc k) place lt is way = hits_at chains values first (name_at chains x.chain) places above k place (omega (arith, lt)) is way.4
+
+  -- they match each packet that comes by it
+  pub all_match : (a : Assignment) (p : Packet) (way : Way) → matches p.values (rule_at own_table way.wanted) ≡ true → MayCome s a p way → AllMatch own_table p way
+  all_match a p way own may place (inl same) is = let P : Step → Type 0 = λ w. matches p.values (rule_at own_table w) ≡ true in subst P (sym same) own
+  all_match a p way own may place (inr c) is =
+      let hit = hits_at (chains_of s a) p.values (hook_name p.hook) (name_at (chains_of s a) way.wanted.chain) way.places.items may.above c.0 place c.1 c.2 may.leads in
+      (matched_there s a p.values place hit.0 sound is hit.1).0
 
   -- ---- what leads away on a way
 
@@ -426,16 +458,19 @@ module _ (s : Subject) (sound : IsSound (table_of s)) where
   pub keeps_unmatched : (by : Step) (a : Assignment) (p : Packet) → IsRule own_table by → (Matched a p.values by → ⊥) → KeepsIn s by a p
   keeps_unmatched by a p is un o h l = let m = matched_there s a p.values by o sound is h in un (m.0, m.1)
 
-  -- the packets that a rule takes out are in one scope more
-  pub parts_taken : (by : Step) (scope taken : Scope) (old new : List Scope) → IsRule own_table by → ((a : Assignment) (p : Packet) → IsAtHook p → IsHere a p scope → Matched a p.values by → IsHere a p taken) → new ≡ old ++ taken ∷ []
-      → AddsParts scope (KeepsIn s by) old new
-  parts_taken by scope taken old new is all e = record {
-    kept = λ a p h. any_kept (IsHere a p) old (taken ∷ []) new e h;
+  -- the packets that a rule takes out are in parts of one scope
+  pub parts_taken : (by : Step) (scope taken : Scope) (old new : List Scope) → IsRule own_table by → ((a : Assignment) (p : Packet) → IsAtHook p → IsHere a p scope → Matched a p.values by → IsHere a p taken)
+      → AddsParts taken (λ a p. matches p.values (rule_at own_table by) ≡ true → ⊥) old new → AddsParts scope (KeepsIn s by) old new
+  parts_taken by scope taken old new is all parts = record {
+    kept = parts.kept;
     parted = λ a p at here. elim (cases_Bool (matches p.values (rule_at own_table by))) [
       | inr un ↦ inr (keeps_unmatched by a p is (λ m. true≢false (sym m.0 ∙ un)))
       | inl t ↦ elim (cases_Bool (all_hold a (needs_of s.needs.now by))) [
         | inr fails ↦ inr (keeps_unmatched by a p is (λ m. true≢false (sym m.1 ∙ fails)))
-        | inl held ↦ inl (any_last (IsHere a p) old taken new e (all a p at here (t, held)))
+        | inl held ↦ elim (parts.parted a p at (all a p at here (t, held))) [
+          | inl there ↦ inl there
+          | inr un ↦ absurd (un t)
+        ]
       ]
     ];
   }
@@ -596,22 +631,6 @@ first_way s step hook first ways sound is wanted scope places e a p at there on 
     any_last (MayCome s a p) [] first ways e
     (record { here = (inside, agrees); free = subst Q (sym wanted) way.1; above = way.0.0; leads = subst R (sym wanted) (subst S (sym places) way.0.1) })
 
--- so have ways for parts of it, which have all of it that the rule matches
-pub first_parts : (s : Subject) (step : Step) (hook : Hook) (first : Way) (parts : List Scope) (ways : List Way) → IsSound (table_of s) → IsRule (table_of s) step → first.wanted ≡ step → IsScopeAt (table_of s) s.needs.now step hook first.scope
-    → first.places.items ≡ [] → ((a : Assignment) (p : Packet) → IsAtHook p → IsHere a p first.scope → matches p.values (rule_at (table_of s) step) ≡ true → Any (IsHere a p) parts) → TakesScopes first parts [] ways → AreAllWays s step hook ways
-first_parts s step hook first parts ways sound is wanted scope places parted takes a p at there on =
-    let t = answered s a in
-    let cs = chains_of s a in
-    let left = left_sound s.needs.now a (table_of s) sound in
-    let rule : IsRule t step = rule_of_entry t p step left (All-contains (IsMatched cs p.values) (walk t p).trail (entry_of cs step) (trail_matches t p) on) in
-    let own : IsMatchedAt t step hook p = record { can = at; there = there; matched = rule_matches t p step left rule on } in
-    let before = matched_before s.needs.now a (table_of s) step hook p is own in
-    let (k, d, lt, same, may) = first_way s step hook first (first ∷ []) sound is wanted scope places refl a p at there on in
-    let at_first : k ≡ 0 = omega (arith, lt) in
-    let one : d ≡ first = sym same ∙ ap (λ (i : ℕ). get_or (first ∷ []) i d) at_first in
-    let own_may : MayCome s a p first = subst (λ (w : Way). MayCome s a p w) one may in
-    takes.taken s a p own_may (parted a p at own_may.here before.matched)
-
 -- and there is none where no assignment meets what the rule needs
 pub never_meets : (s : Subject) (step : Step) (hook : Hook) → IsSound (table_of s) → IsRule (table_of s) step → MeetsNever (needs_of s.needs.now step) [] → IsAlwaysDeadAt s step hook
 never_meets s step hook sound is none a p at there on =
@@ -626,9 +645,10 @@ never_meets s step hook sound is none a p at there on =
 pub last_wanted : (step : Step) (ways left : List Way) (way : Way) → ways ≡ left ++ way ∷ [] → AllWant step ways → AllWant step left × (way.wanted ≡ step)
 last_wanted step ways left way e all = All-pop (λ (w : Way). w.wanted ≡ step) ways left (Some way) e all
 
-pub next_ways : (s : Subject) (step : Step) (hook : Hook) (way : Way) (ways left new : List Way) → ways ≡ left ++ way ∷ [] → TakesOver s hook way left new → AreAllWays s step hook ways → AreAllWays s step hook new
-next_ways s step hook way ways left new e tried all a p at there on =
+pub next_ways : (s : Subject) (step : Step) (hook : Hook) (way : Way) (ways left new : List Way) → ways ≡ left ++ way ∷ [] → way.wanted ≡ step → TakesOn s hook way left new → AreAllWays s step hook ways → AreAllWays s step hook new
+next_ways s step hook way ways left new e wanted tried all a p at there on =
+    let On : Step → Type 0 = λ w. Contains (walk (answered s a) p).trail (entry_of (answered s a).chains w) in
     elim (any_left (MayCome s a p) ways left way e (all a p at there on)) [
       | inl before ↦ tried.kept a p before
-      | inr may ↦ tried.taken a p at there may
+      | inr may ↦ tried.taken a p at there (subst On (sym wanted) on) may
     ]

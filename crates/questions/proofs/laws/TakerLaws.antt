@@ -1,8 +1,10 @@
 -- Who decides the packets that a rule matches where all holds that it needs.
-use Rattle.std.proofs.Common.{◌≡◌, ◌⊎◌, inl, inr, ℕ, ◌+◌, ◌-◌, ◌<◌, true, List, [], ◌∷◌, ◌++◌, length, get_or, refl, sym, ◌∙◌, ap, arith, subst, Option, Some, None, All, Contains}
-use Rattle.std.specs.Prelude.{AllPairs, Any, IsTrue, MatchOption}
+use Rattle.std.proofs.Common.{◌≡◌, ◌⊎◌, inl, inr, ℕ, ◌+◌, ◌-◌, ◌<◌, Bool, true, false, List, [], ◌∷◌, ◌++◌, length, get_or, refl, sym, ◌∙◌, ap, arith, subst, Option, Some, None, All, Contains}
+use Rattle.std.specs.Prelude.{AllPairs, Any, IfOk, IsTrue, MatchOption, Result}
+use Rattle.std.specs.declared.alloc.AllocError.{AllocError}
 use Rattle.std.specs.Option.{option_map}
 use Rattle.std.proofs.lemmas.Bool.{and_from, cases_Bool, true≢false}
+use Rattle.std.proofs.lemmas.Result.{IfOk-weaker}
 use Rattle.std.proofs.lemmas.List.{get_or_default}
 use Rattle.std.proofs.lemmas.List.Elements.{All-contains, All-nil, Contains-append_left, Contains-get_or, Contains-push, Contains-push_cases}
 use Rattle.std.proofs.lemmas.List.Quantifiers.{all_pairs_push}
@@ -27,7 +29,8 @@ use Rattle.questions.specs.Leaves.{entry_of}
 use Rattle.questions.specs.Scopes.{EndsUnder, IsOf, IsSurely, Known, answered, known_by, scope_of, table_of, under}
 use Rattle.questions.specs.asked.Always.{IsAlwaysDead, IsAlwaysDeadAt}
 use Rattle.questions.specs.asked.Reason.{IsDecidedAmong, IsDecidedBy, IsImpossible, IsLed, IsUnreached}
-use Rattle.questions.specs.asked.Why.{HasPacketUnder, IsMeantUnder, IsTakenUnder}
+use Rattle.questions.specs.asked.Unknown.{IsUndecidedUnder}
+use Rattle.questions.specs.asked.Why.{HasLetInUnder, HasPacketUnder, IsAtStakeUnder, IsMeantUnder, IsTakenUnder}
 use Rattle.questions.specs.boxes.Area.{Has, HasOwnInterfaces, IsAtHook, IsBoth, IsIn}
 use Rattle.questions.specs.declared.asked.reach.Given.{Given}
 use Rattle.questions.specs.declared.asked.takers.Takers.{Takers}
@@ -37,10 +40,10 @@ use Rattle.questions.specs.declared.foreign.subject.Subject.{Subject}
 use Rattle.questions.specs.declared.walking.scope.Scope.{Scope}
 use Rattle.questions.specs.declared.walking.task.Leaf.{Leaf}
 use Rattle.questions.specs.steps.Answered.{IsMeeting, MeetsNever}
-use Rattle.questions.specs.steps.Deciding.{AllTake, AreBefore, EndsAs, IsMatchedUnder, IsTakenAt, IsWalked, TakesOne}
+use Rattle.questions.specs.steps.Deciding.{AllTake, AreBefore, AreTakersOf, EndsAs, IsAsked, IsMatchedUnder, IsTakenAt, IsWalked, TakesOne}
 use Rattle.questions.specs.steps.Exact.{AreExactWalksUnder, IsExactUnder}
-use Rattle.questions.specs.steps.Meant.{IsScopeAt, needs_of}
-use Rattle.questions.specs.steps.Takers.{Grows, IsAmong, IsBoxAt, IsByThis, Takes, TakesAll}
+use Rattle.questions.specs.steps.Meant.{IsScopeAt, IsScopeBy, needs_of}
+use Rattle.questions.specs.steps.Takers.{Grows, IsAmong, IsBoxAt, IsBoxBy, IsByThis, IsLetBy, Takes, TakesAll}
 use Rattle.questions.proofs.laws.AnswerLaws.{some_assignment_gives}
 use Rattle.questions.proofs.laws.AreaLaws.{box_of_rule, has_of_rule, on_field}
 use Rattle.questions.proofs.laws.EndLaws.{by_policy_where, decider_is_rule, decider_under, none_some}
@@ -71,7 +74,7 @@ met_on s a p step hook sound is can there on =
     ]
 
 -- an entry of the rule in the table is one in what is left of it
-on_left : (s : Subject) (a : Assignment) (p : Packet) (step : Step) → Contains (walk (answered s a) p).trail (entry_of (table_of s).chains step) → Contains (walk (answered s a) p).trail (entry_of (answered s a).chains step)
+pub on_left : (s : Subject) (a : Assignment) (p : Packet) (step : Step) → Contains (walk (answered s a) p).trail (entry_of (table_of s).chains step) → Contains (walk (answered s a) p).trail (entry_of (answered s a).chains step)
 on_left s a p step on = let P : Entry → Type 0 = λ entry. Contains (walk (answered s a) p).trail entry in subst P (sym (entry_left s.needs.now a (table_of s) step)) on
 
 -- a rule of what is left is one of the table
@@ -126,6 +129,33 @@ boxed_scope t needs step hook scope (given, box, same, meets) =
     let P : Hook → List SpanSet → Type 0 = λ h area. IsBoxAt t step hook (record { hook = h; area = area }) in
     (subst (λ (area : List SpanSet). P hook area) same (subst (λ (h : Hook). P h given.area) box.there box), meets)
 
+-- those of them that another rule lets in: all of them where none is given
+pub scope_of_all : (t : Table) (needs : List (List (List Need))) (step : Step) (hook : Hook) (scope : Scope) → IsScopeAt t needs step hook scope → IsScopeBy t needs step None hook scope
+scope_of_all t needs step hook scope (given, box, same, meets) =
+    (given, record { there = box.there; all = λ p m let_in. box.all p m; only = λ p is e inside. (let (own, allowed) = box.only p is e inside in (own, allowed, tt)) }, same, meets)
+
+pub scope_of_some : (t : Table) (needs : List (List (List Need))) (step by : Step) (hook : Hook) (scope : Scope) (other area : List SpanSet) → IsScopeAt t needs step hook scope → IsBoxOf (rule_at t by) other → IsBoth scope.area other area
+    → IsScopeBy t needs step (Some by) hook (record { area = area; answers = scope.answers })
+scope_of_some t needs step by hook scope other area at boxed both =
+    let (box, meets) = boxed_scope t needs step hook scope at in (
+      record { hook = hook; area = area },
+      record {
+        there = refl;
+        all = λ p m let_in. both.all p.values m.can.packet.within (box.all p m) (record { each = box_of_rule (rule_at t by) other p.values boxed m.can.packet.within ∙ let_in });
+        only = λ p is e inside.
+            (let (own, allowed) = box.only p is e (both.first p.values is.within inside) in
+            (own, allowed, sym (box_of_rule (rule_at t by) other p.values boxed is.within) ∙ (both.second p.values is.within inside).each));
+      },
+      refl,
+      meets,
+    )
+
+pub boxed_by : (t : Table) (needs : List (List (List Need))) (step : Step) (by : Option Step) (hook : Hook) (scope : Scope) → IsScopeBy t needs step by hook scope
+    → (let given : Given = record { hook = hook; area = scope.area } in IsBoxBy t step by hook given × IsMeeting (needs_of needs step) [] scope.answers)
+boxed_by t needs step by hook scope (given, box, same, meets) =
+    let P : Hook → List SpanSet → Type 0 = λ h area. IsBoxBy t step by hook (record { hook = h; area = area }) in
+    (subst (λ (area : List SpanSet). P hook area) same (subst (λ (h : Hook). P h given.area) box.there box), meets)
+
 -- a packet of a leaf is decided as the leaf is, where that is sure
 ends_as : (t : Table) (known : Known) (p : Packet) (leaf : Leaf) → IsSurely known leaf → EndsUnder t known p leaf → EndsAs t p leaf
 ends_as t known p leaf surely ends = record {
@@ -138,22 +168,22 @@ module _ (s : Subject) (step : Step) (hook : Hook) (sound : IsSound (table_of s)
   own = needs_at s.needs.now step.chain (step.number - 1)
 
   -- what the rule needs is never met
-  pub never_before : MeetsNever own [] → AreBefore s step hook []
-  never_before never = record {
-    dead = λ a p can e on. unmet a (met_on s a p step hook sound is can e on).held;
-    all = λ a p m. absurd (unmet a m.held);
-    each = All-nil (IsWalked s step hook);
+  pub never_before : (Asked : Packet → Type 0) → MeetsNever own [] → AreBefore s step Asked hook []
+  never_before Asked never = record {
+    dead = λ a p can e asked on. unmet a (met_on s a p step hook sound is can e on).held;
+    all = λ a p m asked. absurd (unmet a m.held);
+    each = All-nil (IsWalked s step Asked hook);
   }
     where
       unmet : (a : Assignment) → all_hold a own ≡ true → ⊥
       unmet a held = true≢false (sym held ∙ never a (gives_none a))
 
-  module _ (given : Given) (box : IsBoxAt (table_of s) step hook given) (answers : List Answer) (meets : IsMeeting own [] answers) where
+  module _ (by : Option Step) (given : Given) (box : IsBoxBy (table_of s) step by hook given) (answers : List Answer) (meets : IsMeeting own [] answers) where
     abbrev start : Scope
     start = under given.area answers
 
     -- a packet of an exact leaf
-    walked_in : ((numbers : List ℕ) → cross numbers (rule_at (table_of s) step) ≡ true) → (leaf : Leaf) → ((a : Assignment) → IsExactUnder (answered s a) (known_by s a) hook start leaf) → IsWalked s step hook leaf
+    walked_in : ((numbers : List ℕ) → cross numbers (rule_at (table_of s) step) ≡ true) → (leaf : Leaf) → ((a : Assignment) → IsExactUnder (answered s a) (known_by s a) hook start leaf) → IsWalked s step (IsLetBy (table_of s) by) hook leaf
     walked_in alone leaf all =
         let (a, agrees) = some_assignment_gives leaf.answers leaf.consistent in
         let ex : IsExactUnder (answered s a) (known_by s a) hook start leaf = all a in
@@ -162,7 +192,7 @@ module _ (s : Subject) (step : Step) (hook : Hook) (sound : IsSound (table_of s)
         let packet : IsPacket p = with_packet hook leaf.area ex.some field.Source n.0 n.1 n.2 in
         let inside : IsIn leaf.area p = with_inside hook leaf.area ex.some field.Source n.0 n.1 n.2 in
         let rule = rule_at (table_of s) step in
-        let (interfaces, allowed) = box.only p packet refl (ex.inside p.values packet.within inside) in
+        let (interfaces, allowed, let_in) = box.only p packet refl (ex.inside p.values packet.within inside) in
         let can : IsAtHook p = ex.can p packet interfaces inside in
         let of : IsOf (known_by s a) p (scope_of leaf) = record { inside = inside; agrees = agrees } in
         let (there, walked) = ex.shown.walked p can refl of in (
@@ -172,29 +202,30 @@ module _ (s : Subject) (step : Step) (hook : Hook) (sound : IsSound (table_of s)
             matched = record { can = can; there = refl; matched = and_from (allows_each p.values rule) (cross p.values rule) allowed (alone p.values) };
             held = (meets.own a there.agrees).1;
           },
+          let_in,
           ends_as (answered s a) (known_by s a) p leaf ex.shown.decided (record { own = of; walked = walked }),
         )
 
     module _ (exact : List Leaf) (walks : (a : Assignment) → AreExactWalksUnder (answered s a) (known_by s a) hook start exact) where
       -- the leaf of a packet that the rule matches
-      in_leaf : (a : Assignment) (p : Packet) → IsMatchedUnder s a step hook p → Any (λ (leaf : Leaf). IsSurely (known_by s a) leaf × EndsUnder (answered s a) (known_by s a) p leaf) exact
-      in_leaf a p m =
-          let of : IsOf (known_by s a) p start = record { inside = box.all p m.matched; agrees = meets.all a (gives_none a) m.held } in
+      in_leaf : (a : Assignment) (p : Packet) → IsMatchedUnder s a step hook p → IsLetBy (table_of s) by p → Any (λ (leaf : Leaf). IsSurely (known_by s a) leaf × EndsUnder (answered s a) (known_by s a) p leaf) exact
+      in_leaf a p m let_in =
+          let of : IsOf (known_by s a) p start = record { inside = box.all p m.matched let_in; agrees = meets.all a (gives_none a) m.held } in
           let (k, leaf, lt, at, inside) = (walks a).all p m.matched.can m.matched.there of in
           let ex : IsExactUnder (answered s a) (known_by s a) hook start leaf = All-contains (IsExactUnder (answered s a) (known_by s a) hook start) exact leaf (walks a).each (k, lt, at) in
           (k, leaf, lt, at, (ex.shown.decided, record { own = inside; walked = (ex.shown.walked p m.matched.can m.matched.there inside).1 }))
 
-      pub before_of : ((numbers : List ℕ) → cross numbers (rule_at (table_of s) step) ≡ true) → All (λ leaf. Contains leaf.trail.items step → ⊥) exact → AreBefore s step hook exact
+      pub before_of : ((numbers : List ℕ) → cross numbers (rule_at (table_of s) step) ≡ true) → All (λ leaf. Contains leaf.trail.items step → ⊥) exact → AreBefore s step (IsLetBy (table_of s) by) hook exact
       before_of alone none = record {
-        dead = λ a p can e on.
-            (let (k, leaf, lt, at, (surely, ends)) = in_leaf a p (met_on s a p step hook sound is can e on) in
+        dead = λ a p can e let_in on.
+            (let (k, leaf, lt, at, (surely, ends)) = in_leaf a p (met_on s a p step hook sound is can e on) let_in in
             let t = answered s a in
             let P : Walked → Type 0 = λ w. Contains w.trail (entry_of t.chains step) in
             let lt_left = there_left s.needs.now a (table_of s) step.chain is.chain in
             let (there, met) = step_by t (known_by s a) leaf.trail.items step (left_sound s.needs.now a (table_of s) sound) lt_left (subst P ends.walked on) in
             All-contains (λ (l : Leaf). Contains l.trail.items step → ⊥) exact leaf none (k, lt, at) there);
-        all = λ a p m.
-            (let (k, leaf, lt, at, (surely, ends)) = in_leaf a p m in
+        all = λ a p m let_in.
+            (let (k, leaf, lt, at, (surely, ends)) = in_leaf a p m let_in in
             (k, leaf, lt, at, ends_as (answered s a) (known_by s a) p leaf surely ends));
         each = λ k d lt. walked_in alone (get_or exact k d) (λ a. (walks a).each k d lt);
       }
@@ -301,29 +332,9 @@ module _ (own : Hook) (leaves : List Leaf) (i : ℕ) (leaf : Leaf) (lt : i < len
     | inr e ↦ inr (i, leaf, lt, sym is, e)
   ]
 
--- ---- hook after hook
+-- ---- of which packets, and at which hooks
 
 module _ (s : Subject) (step : Step) where
-  pub nobody_takes : (takers : Takers) → takers.rules.items ≡ [] → takers.policies.items ≡ [] → AllTake s step takers
-  nobody_takes takers none off hook None h = absurd (omega (arith, h.1, ap (λ (xs : List Hook). length xs) off))
-  nobody_takes takers none off hook (Some x) h = absurd (omega (arith, h.1, ap (λ (xs : List Step). length xs) none))
-
-  -- a hook from which nothing leads to the rule's chain
-  pub unled_at : (takers : Takers) (hook : Hook) → (IsLed (table_of s) step hook → ⊥) → IsTakenAt s step takers hook
-  unled_at takers hook none = record {
-    dead = unled_dead s step hook none;
-    decided = λ led. absurd (none led);
-  }
-
-  pub taken_on : (hook : Hook) (old new : Takers) → Grows old new → IsTakenAt s step old hook → IsTakenAt s step new hook
-  taken_on hook old new g at = record {
-    dead = at.dead;
-    decided = λ led a p m. elim (at.decided led a p m) [
-      | inl policy ↦ inl (g.kept p.hook None policy.0, policy.1)
-      | inr w ↦ (let c = g.kept p.hook (Some w.1) (w.0, w.2, w.3) in inr (c.0, w.1, c.1, c.2, w.4))
-    ];
-  }
-
   -- who decides a packet
   abbrev Decides : Assignment → Packet → Option Step → Type 0
   Decides a p by = MatchOption by (IsTrue (walk (answered s a) p).by_policy) (λ taker. IsRule (table_of s) taker × IsDecidedBy (answered s a) p taker)
@@ -340,12 +351,12 @@ module _ (s : Subject) (step : Step) where
     among_of a p takers None shown h = inl (h, shown)
     among_of a p takers (Some x) shown h = inr (h.0, x, h.1, h.2, shown.1)
 
-    module _ (hook : Hook) (leaves : List Leaf) (old new : Takers) (before : AreBefore s step hook leaves) (takes : TakesAll hook leaves old new) where
-      pub taken_at : IsTakenAt s step new hook
+    module _ (Region : Packet → Type 0) (hook : Hook) (leaves : List Leaf) (old new : Takers) (before : AreBefore s step Region hook leaves) (takes : TakesAll hook leaves old new) where
+      pub taken_at : IsTakenAt s step Region new hook
       taken_at = record {
         dead = before.dead;
-        decided = λ led a p m.
-            (let w = before.all a p m in
+        decided = λ led a p m here.
+            (let w = before.all a p m here in
             let there : IsAmong new hook (step_of w.1) = All-contains (λ (l : Leaf). IsAmong new hook (step_of l)) leaves w.1 takes.added (w.0, w.2, w.3) in
             let P : Hook → Type 0 = λ h. IsAmong new h (step_of w.1) in
             among_of a p new (step_of w.1) (shown_by a p w.1 (step_of w.1) w.4 refl) (subst P (sym m.matched.there) there));
@@ -357,38 +368,43 @@ module _ (s : Subject) (step : Step) where
           let P : Hook → Type 0 = λ k. IsLed (table_of s) step k in
           record { meant = record { can = m.matched.can; led = subst P (sym m.matched.there) led; matched = m.matched.matched }; held = m.held }
 
-      taken_by : (at : Hook) (by : Option Step) (leaf : Leaf) → IsLed (table_of s) step hook → IsByThis hook leaf at by → IsWalked s step hook leaf → TakesOne s step at by
-      taken_by at None leaf led is (a, p, m, ends) = (a, p, meant_there led a p m, (m.matched.there ∙ sym (is.there refl), shown_by a p leaf None ends is.decides))
-      taken_by at (Some x) leaf led is (a, p, m, ends) = (a, p, meant_there led a p m, shown_by a p leaf (Some x) ends is.decides)
+      module _ (Asked : Packet → Type 0) (asked : (p : Packet) → p.hook ≡ hook → Region p → Asked p) where
+        taken_by : (at : Hook) (by : Option Step) (leaf : Leaf) → IsLed (table_of s) step hook → IsByThis hook leaf at by → IsWalked s step Region hook leaf → TakesOne s step Asked at by
+        taken_by at None leaf led is (a, p, m, here, ends) = (a, p, meant_there led a p m, asked p m.matched.there here, (m.matched.there ∙ sym (is.there refl), shown_by a p leaf None ends is.decides))
+        taken_by at (Some x) leaf led is (a, p, m, here, ends) = (a, p, meant_there led a p m, asked p m.matched.there here, shown_by a p leaf (Some x) ends is.decides)
 
-      pub all_take : IsLed (table_of s) step hook → AllTake s step old → AllTake s step new
-      all_take led below at by h = elim (takes.only at by h) [
-        | inl there ↦ below at by there
-        | inr w ↦ taken_by at by w.1 led w.4 (All-contains (IsWalked s step hook) leaves w.1 before.each (w.0, w.2, w.3))
-      ]
+        pub all_take : IsLed (table_of s) step hook → AllTake s step Asked old → AllTake s step Asked new
+        all_take led below at by h = elim (takes.only at by h) [
+          | inl there ↦ below at by there
+          | inr w ↦ taken_by at by w.1 led w.4 (All-contains (IsWalked s step Region hook) leaves w.1 before.each (w.0, w.2, w.3))
+        ]
 
-    -- of all hooks
-    pub taken_of : (takers : Takers) → ((hook : Hook) → IsTakenAt s step takers hook) → AllTake s step takers → AllPairs (λ (a b : Step). a ≡ b → ⊥) takers.rules.items
-        → AllPairs (λ (a b : Hook). a ≡ b → ⊥) takers.policies.items → IsAlwaysDead s (entry_of (table_of s).chains step) × IsTakenUnder s step takers
-    taken_of takers at each once apart = (
-      λ a p can on. (at p.hook).dead a p can refl (on_left s a p step on),
-      record {
-        all = λ a p m. (at p.hook).decided m.meant.led a p (record { matched = record { can = m.meant.can; there = refl; matched = m.meant.matched }; held = m.held });
-        each = λ k d lt. (let (a, p, meant, own) = by_rule k d lt in (a, p, meant, own.1));
-        policies = λ k d lt. (let (a, p, meant, own) = each (get_or takers.policies.items k d) None (Contains-get_or takers.policies.items k d lt) in (a, p, meant, own.0, own.1));
-        rules = λ k d lt. (by_rule k d lt).3.0;
-        once = once;
-        apart = apart;
-      },
-    )
-      where
-        by_rule : (k : ℕ) (d : Step) → k < length takers.rules.items → TakesOne s step Input (Some (get_or takers.rules.items k d))
-        by_rule k d lt = each Input (Some (get_or takers.rules.items k d)) (Contains-get_or takers.rules.items k d lt)
+  module _ (Asked : Packet → Type 0) where
+    pub nobody_takes : (takers : Takers) → takers.rules.items ≡ [] → takers.policies.items ≡ [] → AllTake s step Asked takers
+    nobody_takes takers none off hook None h = absurd (omega (arith, h.1, ap (λ (xs : List Hook). length xs) off))
+    nobody_takes takers none off hook (Some x) h = absurd (omega (arith, h.1, ap (λ (xs : List Step). length xs) none))
 
-  pub hooks_next : (old new : Takers) (i : ℕ) (d : Hook) → i < 3 → Grows old new → IsTakenAt s step new (get_or all_hooks i d) → ((k : ℕ) (h : Hook) → k < i → IsTakenAt s step old (get_or all_hooks k h)) → (k : ℕ) (h : Hook) → k < i + 1 → IsTakenAt s step new (get_or all_hooks k h)
-  hooks_next old new i d lt grows here below =
-      let hook : Hook = get_or all_hooks i d in
-      items_next (IsTakenAt s step new) all_hooks i hook lt (get_or_default all_hooks i d hook lt) (λ k h less. taken_on (get_or all_hooks k h) old new grows (below k h less)) here
+    -- a hook from which nothing leads to the rule's chain
+    pub unled_at : (takers : Takers) (hook : Hook) → (IsLed (table_of s) step hook → ⊥) → IsTakenAt s step Asked takers hook
+    unled_at takers hook none = record {
+      dead = λ a p can e asked on. unled_dead s step hook none a p can e on;
+      decided = λ led. absurd (none led);
+    }
+
+    pub taken_on : (hook : Hook) (old new : Takers) → Grows old new → IsTakenAt s step Asked old hook → IsTakenAt s step Asked new hook
+    taken_on hook old new g at = record {
+      dead = at.dead;
+      decided = λ led a p m asked. elim (at.decided led a p m asked) [
+        | inl policy ↦ inl (g.kept p.hook None policy.0, policy.1)
+        | inr w ↦ (let c = g.kept p.hook (Some w.1) (w.0, w.2, w.3) in inr (c.0, w.1, c.1, c.2, w.4))
+      ];
+    }
+
+    pub hooks_next : (old new : Takers) (i : ℕ) (d : Hook) → i < 3 → Grows old new → IsTakenAt s step Asked new (get_or all_hooks i d) → ((k : ℕ) (h : Hook) → k < i → IsTakenAt s step Asked old (get_or all_hooks k h))
+        → (k : ℕ) (h : Hook) → k < i + 1 → IsTakenAt s step Asked new (get_or all_hooks k h)
+    hooks_next old new i d lt grows here below =
+        let hook : Hook = get_or all_hooks i d in
+        items_next (IsTakenAt s step Asked new) all_hooks i hook lt (get_or_default all_hooks i d hook lt) (λ k h less. taken_on (get_or all_hooks k h) old new grows (below k h less)) here
 
 -- what holds at each place of the hooks holds of each
 pub hooks_all : (P : Hook → Type 0) → ((k : ℕ) (h : Hook) → k < 3 → P (get_or all_hooks k h)) → (hook : Hook) → P hook
@@ -399,14 +415,66 @@ hooks_all P all Output = all 2 Input (omega arith)
 -- ---- what is said
 
 -- takers that decide something have a packet
-pub packet_of_policy : (s : Subject) (step : Step) (takers : Takers) → IsTakenUnder s step takers → 0 < length takers.policies.items → HasPacketUnder s step
-packet_of_policy s step takers is h = let (a, p, meant, there, own) = is.policies 0 Input h in (a, p, meant)
+pub packet_of : (s : Subject) (step : Step) (takers : Takers) → IsTakenUnder s step takers → (0 < length takers.rules.items) ⊎ (0 < length takers.policies.items) → HasPacketUnder s step
+packet_of s step takers is (inl rules) = let (a, p, stake, own) = is.each 0 step rules in (a, p, stake.meant)
+packet_of s step takers is (inr policies) = let (a, p, stake, there, own) = is.policies 0 Input policies in (a, p, stake.meant)
 
-pub packet_of_rule : (s : Subject) (step : Step) (takers : Takers) → IsTakenUnder s step takers → 0 < length takers.rules.items → HasPacketUnder s step
-packet_of_rule s step takers is h = let (a, p, meant, own) = is.each 0 step h in (a, p, meant)
+-- no packet is decided by nobody
+nobody_decides : (t : Table) (takers : Takers) (p : Packet) → takers.rules.items ≡ [] → takers.policies.items ≡ [] → IsDecidedAmong t takers p → ⊥
+nobody_decides t takers p none off (inl policy) = absurd (omega (arith, policy.0.1, ap (λ (xs : List Hook). length xs) off))
+nobody_decides t takers p none off (inr own) = absurd (omega (arith, own.2, ap (λ (xs : List Step). length xs) none))
 
 pub no_packet : (s : Subject) (step : Step) (takers : Takers) → IsTakenUnder s step takers → takers.rules.items ≡ [] → takers.policies.items ≡ [] → HasPacketUnder s step → ⊥
-no_packet s step takers is none off (a, p, meant) = elim (is.all a p meant) [
-  | inl policy ↦ absurd (omega (arith, policy.0.1, ap (λ (xs : List Hook). length xs) off))
-  | inr own ↦ absurd (omega (arith, own.2, ap (λ (xs : List Step). length xs) none))
-]
+no_packet s step takers is none off (a, p, meant) =
+    let never : (b : Assignment) (q : Packet) → IsAtStakeUnder s b step q → ⊥ = λ b q stake. nobody_decides (answered s b) takers q none off (is.all b q stake) in
+    never a p (record { meant = meant; near = inr (λ h. never h.0 h.1 (record { meant = h.2; near = inl h.3 })) })
+
+module _ (s : Subject) (step : Step) (near : Bool) (takers : Takers) (of : AreTakersOf s step near takers) where
+  -- those that are named
+  pub rule_takes : (k : ℕ) (d : Step) → k < length takers.rules.items → TakesOne s step (IsAsked (table_of s) step near) Input (Some (get_or takers.rules.items k d))
+  rule_takes k d lt = of.each Input (Some (get_or takers.rules.items k d)) (Contains-get_or takers.rules.items k d lt)
+
+  pub policy_takes : (k : ℕ) (d : Hook) → k < length takers.policies.items → TakesOne s step (IsAsked (table_of s) step near) (get_or takers.policies.items k d) None
+  policy_takes k d lt = of.each (get_or takers.policies.items k d) None (Contains-get_or takers.policies.items k d lt)
+
+  -- if just the packets at stake are asked about
+  pub taken_of : ((a : Assignment) (p : Packet) → IsAtStakeUnder s a step p → IsAsked (table_of s) step near p) → ((a : Assignment) (p : Packet) → IsMeantUnder s a step p → IsAsked (table_of s) step near p → IsAtStakeUnder s a step p) → IsTakenUnder s step takers
+  taken_of asked stake = record {
+    all = λ a p at. of.all a p at.meant (asked a p at);
+    each = λ k d lt. (let (a, p, meant, ask, own) = rule_takes k d lt in (a, p, stake a p meant ask, own.1));
+    policies = λ k d lt. (let (a, p, meant, ask, own) = policy_takes k d lt in (a, p, stake a p meant ask, own.0, own.1));
+    rules = λ k d lt. (rule_takes k d lt).4.0;
+    once = of.once;
+    apart = of.apart;
+  }
+
+-- the packets that may come to the rule's chain, where there are some
+pub near_taken : (s : Subject) (step : Step) (takers : Takers) → AreTakersOf s step true takers → (0 < length takers.rules.items) ⊎ (0 < length takers.policies.items) → IsTakenUnder s step takers
+near_taken s step takers of some =
+    let has : HasLetInUnder s step = elim some [
+      | inl rules ↦ (let (a, p, meant, ask, own) = rule_takes s step true takers of 0 step rules in (a, p, meant, ask refl))
+      | inr policies ↦ (let (a, p, meant, ask, own) = policy_takes s step true takers of 0 Input policies in (a, p, meant, ask refl))
+    ] in
+    taken_of s step true takers of (λ a p at. elim at.near [
+      | inl here ↦ λ _. here
+      | inr none ↦ absurd (none has)
+    ]) (λ a p meant ask. record { meant = meant; near = inl (ask refl) })
+
+-- else all of them
+pub all_taken : (s : Subject) (step : Step) (near takers : Takers) → AreTakersOf s step true near → near.rules.items ≡ [] → near.policies.items ≡ [] → AreTakersOf s step false takers → IsTakenUnder s step takers
+all_taken s step near takers none rules policies of =
+    let never : HasLetInUnder s step → ⊥ = λ h. nobody_decides (answered s h.0) near h.1 rules policies (none.all h.0 h.1 h.2 (λ _. h.3)) in
+    taken_of s step false takers of (λ a p at e. absurd (true≢false (sym e))) (λ a p meant ask. record { meant = meant; near = inr never })
+
+-- of a call's answer
+pub all_found : (s : Subject) (step : Step) (budget : ℕ) (near : Takers) → AreTakersOf s step true near → near.rules.items ≡ [] → near.policies.items ≡ [] → (result : Result (Option Takers) AllocError)
+    → IfOk result (λ found. MatchOption found (IsUndecidedUnder s step budget) (λ takers. IsAlwaysDead s (entry_of (table_of s).chains step) × AreTakersOf s step false takers))
+    → IfOk result (λ found. MatchOption found (IsUndecidedUnder s step budget) (λ takers. IsAlwaysDead s (entry_of (table_of s).chains step) × IsTakenUnder s step takers))
+all_found s step budget near none rules policies result h =
+    IfOk-weaker result (λ found. MatchOption found (IsUndecidedUnder s step budget) (λ takers. IsAlwaysDead s (entry_of (table_of s).chains step) × AreTakersOf s step false takers))
+    (λ found. MatchOption found (IsUndecidedUnder s step budget) (λ takers. IsAlwaysDead s (entry_of (table_of s).chains step) × IsTakenUnder s step takers)) one h
+  where
+    one : (found : Option Takers) → MatchOption found (IsUndecidedUnder s step budget) (λ takers. IsAlwaysDead s (entry_of (table_of s).chains step) × AreTakersOf s step false takers)
+        → MatchOption found (IsUndecidedUnder s step budget) (λ takers. IsAlwaysDead s (entry_of (table_of s).chains step) × IsTakenUnder s step takers)
+    one None h = h
+    one (Some takers) h = (h.0, all_taken s step near takers none rules policies h.1)

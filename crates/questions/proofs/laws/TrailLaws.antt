@@ -159,17 +159,3 @@ walks_over t walked trail step shows on =
     sym (get_or-map (shown t.chains) walked.trail k (entry_of t.chains step) None lt) ∙ ap (λ (os : List (Option Step)). get_or os k None) shows.steps
     ∙ get_or-map Some trail.steps.items k step None on.1 ∙ ap Some on.2 in
     (k, lt, shown_is t entry step one)
-
--- and an entry of the walk that is a step's is a step of the trail
-pub walks_under : (t : Table) (walked : Walked) (trail : Trail) (step : Step) → IsSound t → step.chain < length t.chains → Shows t.chains walked trail → Contains walked.trail (entry_of t.chains step) → Contains trail.steps.items step
-walks_under t walked trail step s there shows on =
-    let k : ℕ = on.0 in
-    let entry : Entry = entry_of t.chains step in
-    let long : length walked.trail ≡ length trail.steps.items = sym (length-map walked.trail (shown t.chains)) ∙ ap (λ (os : List (Option Step)). length os) shows.steps ∙ length-map trail.steps.items Some in
-    let lt : k < length trail.steps.items = omega (arith, on.1, long) in
-    let here : Step = get_or trail.steps.items k step in
-    let one : ◌≡◌ {A = Option Step} (shown t.chains (get_or walked.trail k entry)) (Some here) =
-    sym (get_or-map (shown t.chains) walked.trail k entry None on.1) ∙ ap (λ (os : List (Option Step)). get_or os k None) shows.steps
-    ∙ get_or-map Some trail.steps.items k step None lt in
-    let same : entry_of t.chains here ≡ entry = sym (shown_is t (get_or walked.trail k entry) here one) ∙ on.2 in
-    step_in t trail.steps.items step s there (k, omega (arith, lt, length-map trail.steps.items (entry_of t.chains)), get_or-map (entry_of t.chains) trail.steps.items k step entry lt ∙ same)

@@ -11,10 +11,10 @@ use Rattle.table.specs.walk.Walk.{walk}
 use Rattle.questions.specs.Foreign.{Agrees, Assignment, all_hold, needs_at}
 use Rattle.questions.specs.Leaves.{entry_of}
 use Rattle.questions.specs.Scopes.{table_of, under, whole_of}
-use Rattle.questions.specs.asked.Reason.{Explains, HasPacket, IsDecidedAmong, IsDecidedBy, IsMeantFor, IsReason, IsTaken}
+use Rattle.questions.specs.asked.Reason.{Explains, HasPacket, IsAtStake, IsDecidedAmong, IsDecidedBy, IsMeantFor, IsReason, IsTaken}
 use Rattle.questions.specs.asked.Rule.{IsDead}
 use Rattle.questions.specs.asked.Unknown.{CantBeWalked, IsUndecided, IsUndecidedAt, IsUndecidedAtUnder, IsUndecidedUnder, IsOnSome}
-use Rattle.questions.specs.asked.Why.{ExplainsUnder, HasPacketUnder, IsMeantUnder, IsReasonUnder, IsTakenUnder}
+use Rattle.questions.specs.asked.Why.{ExplainsUnder, HasPacketUnder, IsAtStakeUnder, IsMeantUnder, IsReasonUnder, IsTakenUnder}
 use Rattle.questions.specs.declared.asked.reach.Given.{Given}
 use Rattle.questions.specs.declared.asked.reason.Reason.{Reason}
 use Rattle.questions.specs.declared.asked.reason.Reason.TheVariants as reason
@@ -27,10 +27,10 @@ use Rattle.questions.specs.steps.Answered.{IsMeeting}
 use Rattle.questions.specs.steps.Exact.{AreExactWalks}
 use Rattle.questions.specs.steps.Meant.{needs_of}
 use Rattle.questions.specs.steps.Taken.{IsUnfinishedUnder}
-use Rattle.questions.specs.steps.Takers.{IsBoxAt}
+use Rattle.questions.specs.steps.Takers.{IsBoxBy}
 use Rattle.questions.proofs.laws.ExactLaws.{cant_be_walked, exact_walks_plain}
 use Rattle.questions.proofs.laws.PlainLaws.{gives_none, to_plain}
-use Rattle.questions.proofs.laws.TakerLaws.{boxed_scope}
+use Rattle.questions.proofs.laws.TakerLaws.{boxed_by}
 
 -- answers that each assignment gives are none
 no_answers : (answers : List Answer) → ((a : Assignment) → Agrees a answers) → answers ≡ []
@@ -54,18 +54,37 @@ module _ (s : Subject) (none : s.needs.now ≡ []) (step : Step) where
   pub meant_under : (p : Packet) → IsMeantFor (table_of s) step p → IsMeantUnder s any step p
   meant_under p meant = record { meant = meant; held = held_plain any }
 
+  -- the packets at stake
+  stake_under : (p : Packet) → IsAtStake (table_of s) step p → IsAtStakeUnder s any step p
+  stake_under p at = record {
+    meant = meant_under p at.meant;
+    near = elim at.near [
+      | inl here ↦ inl here
+      | inr none ↦ inr (λ h. none (h.1, h.2.meant, h.3))
+    ];
+  }
+
+  stake_plain : (a : Assignment) (p : Packet) → IsAtStakeUnder s a step p → IsAtStake (table_of s) step p
+  stake_plain a p at = record {
+    meant = at.meant.meant;
+    near = elim at.near [
+      | inl here ↦ inl here
+      | inr none ↦ inr (λ h. none (any, h.0, meant_under h.0 h.1, h.2))
+    ];
+  }
+
   packet_plain : HasPacketUnder s step → HasPacket (table_of s) step
   packet_plain (a, p, m) = (p, m.meant)
 
   taken_plain : (takers : Takers) → IsTakenUnder s step takers → IsTaken (table_of s) step takers
   taken_plain takers is = record {
-    all = λ p meant. to_plain s none (λ t. IsDecidedAmong t takers p) any (is.all any p (meant_under p meant));
+    all = λ p at. to_plain s none (λ t. IsDecidedAmong t takers p) any (is.all any p (stake_under p at));
     each = λ k d lt.
-        (let (a, p, m, own) = is.each k d lt in
-        (p, m.meant, to_plain s none (λ t. IsDecidedBy t p (get_or takers.rules.items k d)) a own));
+        (let (a, p, at, own) = is.each k d lt in
+        (p, stake_plain a p at, to_plain s none (λ t. IsDecidedBy t p (get_or takers.rules.items k d)) a own));
     policies = λ k d lt.
-        (let (a, p, m, there, own) = is.policies k d lt in
-        (p, m.meant, there, to_plain s none (λ t. (walk t p).by_policy ≡ true) a own));
+        (let (a, p, at, there, own) = is.policies k d lt in
+        (p, stake_plain a p at, there, to_plain s none (λ t. (walk t p).by_policy ≡ true) a own));
     rules = is.rules;
     once = is.once;
     apart = is.apart;
@@ -83,13 +102,13 @@ module _ (s : Subject) (none : s.needs.now ≡ []) (step : Step) where
 
   undecided_at_plain : (budget : ℕ) (hook : Hook) → IsUndecidedAtUnder s step budget hook → IsUndecidedAt (table_of s) step budget hook
   undecided_at_plain budget hook (inl both) = inl both
-  undecided_at_plain budget hook (inr (scope, at, un)) = inr (given, both.0, by_walks (subst P bare un))
+  undecided_at_plain budget hook (inr (by, leads, scope, at, un)) = inr (by, leads, given, both.0, by_walks (subst P bare un))
     where
       given : Given
       given = record { hook = hook; area = scope.area }
 
-      both : IsBoxAt (table_of s) step hook given × IsMeeting (needs_of s.needs.now step) [] scope.answers
-      both = boxed_scope (table_of s) s.needs.now step hook scope at
+      both : IsBoxBy (table_of s) step by hook given × IsMeeting (needs_of s.needs.now step) [] scope.answers
+      both = boxed_by (table_of s) s.needs.now step by hook scope at
 
       P : List Answer → Type 0
       P xs = IsUnfinishedUnder (whole_of s) hook (under given.area xs) budget ⊎ IsOnSome s hook (under given.area xs) step

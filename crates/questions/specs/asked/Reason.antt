@@ -4,7 +4,7 @@ use Rattle.fields.specs.declared.numbers.field.Field.{Field}
 use Rattle.fields.specs.declared.packet.hook.Hook.{Hook}
 use Rattle.fields.specs.packet.Hook.{name as hook_name}
 use Rattle.fields.specs.packet.Packet.{PacketView as Packet, point}
-use Rattle.rules.specs.rule.Allows.{allows, matches}
+use Rattle.rules.specs.rule.Allows.{allows, allows_each, matches}
 use Rattle.rules.specs.rule.Rules.{Rule}
 use Rattle.table.specs.chains.Sound.{Leads}
 use Rattle.table.specs.chains.Table.{Table, chain_at, chain_named_by}
@@ -14,6 +14,7 @@ use Rattle.questions.specs.Ends.{IsRule, decider_of, rule_at}
 use Rattle.questions.specs.Leaves.{entry_of}
 use Rattle.questions.specs.asked.Rule.{IsDead}
 use Rattle.questions.specs.boxes.Area.{IsAtHook}
+use Rattle.questions.specs.boxes.Calls.{IsCall}
 use Rattle.questions.specs.declared.asked.reason.Reason.{Reason}
 use Rattle.questions.specs.declared.asked.reason.Reason.TheVariants.{Impossible, Unreached, NoPacket, Excluded, Taken}
 use Rattle.questions.specs.declared.asked.takers.Takers.{Takers}
@@ -33,6 +34,21 @@ pub record IsMeantFor (t : Table) (step : Step) (p : Packet) : Type 0 where
 -- there is such a packet
 abbrev pub HasPacket : Table → Step → Type 0
 HasPacket t step = (p : Packet) × IsMeantFor t step p
+
+-- the packet may come to the rule's chain: walks begin there at its hook, or a rule that jumps or goes to the chain allows each of its numbers
+abbrev pub IsLetIn : Table → Step → Packet → Type 0
+IsLetIn t step p =
+    (hook_name p.hook ≡ (chain_at t step.chain).name)
+    ⊎ ((by : Step) × IsCall t (record { to = step.chain; by = by }) × (allows_each p.values (rule_at t by) ≡ true))
+
+-- a packet that may come to its chain is meant for the rule
+abbrev pub HasLetIn : Table → Step → Type 0
+HasLetIn t step = (p : Packet) × IsMeantFor t step p × IsLetIn t step p
+
+-- the packet is meant for the rule and may come to its chain; or none may, and it is meant for it
+pub record IsAtStake (t : Table) (step : Step) (p : Packet) : Type 0 where
+  pub meant : IsMeantFor t step p
+  pub near : IsLetIn t step p ⊎ (HasLetIn t step → ⊥)
 
 -- the rule allows no number that a packet can have on the field
 abbrev pub IsImpossible : Rule → Field → Type 0
@@ -58,15 +74,15 @@ IsDecidedBy t p by = decider_of (walk t p) ≡ Some (entry_of t.chains by)
 abbrev pub IsDecidedAmong : Table → Takers → Packet → Type 0
 IsDecidedAmong t takers p = (Contains takers.policies.items p.hook × IsTrue (walk t p).by_policy) ⊎ Any (IsDecidedBy t p) takers.rules.items
 
--- the policy of this hook decides a packet that might come to the rule and would match it
+-- the policy of this hook decides a packet that is at stake
 abbrev pub IsTakenByPolicy : Table → Step → Hook → Type 0
-IsTakenByPolicy t step hook = (p : Packet) × IsMeantFor t step p × (p.hook ≡ hook) × IsTrue (walk t p).by_policy
+IsTakenByPolicy t step hook = (p : Packet) × IsAtStake t step p × (p.hook ≡ hook) × IsTrue (walk t p).by_policy
 
--- exactly the named rules and policies decide the packets that might come to the rule and would match it: each such packet is
--- decided by one of them, and each of them decides such a packet; the named rules are the table's, and nothing is named twice
+-- exactly the named rules and policies decide the packets that are at stake: each such packet is decided by one of them, and each of them decides such
+-- a packet; the named rules are the table's, and nothing is named twice
 pub record IsTaken (t : Table) (step : Step) (takers : Takers) : Type 0 where
-  pub all : (p : Packet) → IsMeantFor t step p → IsDecidedAmong t takers p
-  pub each : All (λ by. (p : Packet) × IsMeantFor t step p × IsDecidedBy t p by) takers.rules.items
+  pub all : (p : Packet) → IsAtStake t step p → IsDecidedAmong t takers p
+  pub each : All (λ by. (p : Packet) × IsAtStake t step p × IsDecidedBy t p by) takers.rules.items
   pub policies : All (IsTakenByPolicy t step) takers.policies.items
   pub rules : All (IsRule t) takers.rules.items
   pub once : AllPairs (λ a b. a ≡ b → ⊥) takers.rules.items
@@ -99,7 +115,7 @@ IsReason t step (Taken takers) = HasPacket t step × IsOpen t step × IsTaken t 
 
 -- the rule is dead, for the first of these reasons: no packet has a number on a field that the rule allows; no jumps and gotos lead to its chain;
 -- no packet is meant for it; packets come to its chain only by rules that match no packet that it matches; or exactly these rules
--- and policies decide the packets that are meant for it
+-- and policies decide the packets that are at stake
 pub record Explains (t : Table) (step : Step) (reason : Reason) : Type 0 where
   pub dead : IsDead t (entry_of t.chains step)
   pub why : IsReason t step reason

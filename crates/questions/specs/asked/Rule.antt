@@ -24,12 +24,6 @@ IsLive t entry words = (p : Packet) × (packet_of words ≡ Ok p) × Contains (w
 abbrev pub IsLiveAt : Table → Entry → Hook → List (List ℕ) → Type 0
 IsLiveAt t entry hook words = (p : Packet) × (packet_of words ≡ Ok p) × (p.hook ≡ hook) × Contains (walk t p).trail entry
 
--- what an answer says of a rule, for the packets at one hook; an unclear one says nothing
-abbrev pub SaysAt : Table → Entry → Hook → Life → Type 0
-SaysAt t entry hook Dead = IsDeadAt t entry hook
-SaysAt t entry hook (Live words answers) = IsLiveAt t entry hook words
-SaysAt t entry hook Unclear = Unit {0}
-
 -- what an answer says of a rule; an unclear one says nothing
 abbrev pub Says : Table → Entry → Life → Type 0
 Says t entry Dead = IsDead t entry

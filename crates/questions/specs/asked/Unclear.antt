@@ -1,55 +1,47 @@
 -- Where alone an answer may be unclear, given a budget of steps.
-use Rattle.std.specs.Prelude.{◌≡◌, ◌⊎◌, ℕ, ◌*◌, ◌/◌, ◌<◌, ◌≤◌, List, length, All}
+use Rattle.std.specs.Prelude.{◌≡◌, ◌⊎◌, ℕ, ◌<◌, List, [], ◌∷◌, ◌++◌, length}
 use Rattle.fields.specs.declared.packet.hook.Hook.{Hook}
 use Rattle.fields.specs.packet.Packet.{PacketView as Packet}
 use Rattle.table.specs.chains.Table.{Table}
-use Rattle.table.specs.declared.verdict.Verdict.TheVariants.{TooLong}
 use Rattle.table.specs.declared.walk.trail.Step.{Step}
-use Rattle.table.specs.walk.Walk.{walk}
-use Rattle.questions.specs.Foreign.{AreWithoutNeeds}
 use Rattle.questions.specs.Leaves.{entry_of}
-use Rattle.questions.specs.Scopes.{Whole, all_of, unasked}
-use Rattle.questions.specs.Written.{HasNoneWritten, IsSampleOf}
+use Rattle.questions.specs.Scopes.{Whole, all_of}
+use Rattle.questions.specs.Written.{HasNoneWritten}
 use Rattle.questions.specs.asked.Rule.{IsDeadAt}
-use Rattle.questions.specs.boxes.Area.{IsOnly}
-use Rattle.questions.specs.boxes.Boxes.{rules_in}
+use Rattle.questions.specs.boxes.Area.{HasNumbers, IsAtHook, IsIn, IsOnly}
 use Rattle.questions.specs.declared.foreign.answers.Answer.{Answer}
-use Rattle.questions.specs.declared.asked.reach.Given.{Given}
 use Rattle.questions.specs.declared.asked.rule.Life.{Life}
 use Rattle.questions.specs.declared.asked.rule.Life.TheVariants as life
-use Rattle.questions.specs.declared.walking.front.Front.{Front}
+use Rattle.questions.specs.declared.seeking.way.Way.{Way}
 use Rattle.questions.specs.declared.walking.scope.Scope.{Scope}
-use Rattle.questions.specs.steps.Searched.{HasCome, SearchesTo}
-use Rattle.questions.specs.steps.Taken.{IsFull, IsUnfinishedUnder}
-use Rattle.questions.specs.steps.Takers.{IsBoxAt}
+use Rattle.questions.specs.steps.Lengths.{IsBounded}
+use Rattle.questions.specs.steps.Taken.{IsUnfinishedUnder}
+use Rattle.questions.specs.steps.Tries.{AreTries, IsFirst}
 
 -- the walk of a box that has just this packet isn't finished within the budget, under some answers
 abbrev pub IsUnended : Whole → Hook → ℕ → List Answer → Packet → Type 0
 IsUnended t hook budget answers p = (own : Scope) × IsOnly own.area p × (own.answers ≡ answers) × IsUnfinishedUnder t hook own budget
 
--- a packet's walk is too long where no rule needs anything, or isn't known to end where some rule does
-abbrev pub MayBeTooLong : Whole → Hook → ℕ → List Answer → Packet → Type 0
-MayBeTooLong t hook budget answers p =
-    (AreWithoutNeeds t.needs × ((walk t.table p).verdict ≡ TooLong)) ⊎ ((AreWithoutNeeds t.needs → ⊥) × IsUnended t hook budget answers p)
+-- a way's box has numbers, but no packet that a line writes; or a packet whose walks aren't known to end within the budget, where the way's answers are
+-- right
+abbrev pub IsUntold : Whole → Hook → ℕ → Way → Type 0
+IsUntold t hook budget way =
+    (HasNumbers way.scope.area × HasNoneWritten hook way.scope.area)
+    ⊎ ((p : Packet) × IsAtHook p × (p.hook ≡ hook) × IsIn way.scope.area p × IsUnended t hook budget way.scope.answers p)
 
--- no packet line writes a packet of the scope's box, or some line writes one whose walk may be too long
-abbrev pub IsUnseen : Whole → Hook → ℕ → Scope → Type 0
-IsUnseen t hook budget scope =
-    HasNoneWritten hook scope.area
-    ⊎ ((words : List (List ℕ)) × (p : Packet) × IsSampleOf hook scope.area words p × MayBeTooLong t hook budget scope.answers p)
+-- a packet that comes to the rule is sought in vain: after as many tries as the budget allows some way is left; or after fewer the last way can't be told
+pub record IsSoughtInVain (t : Whole) (step : Step) (hook : Hook) (budget : ℕ) : Type 0 where
+  pub first : Way
+  pub ways : List Way
+  pub begins : IsFirst t step hook first
+  pub n : ℕ
+  pub tries : AreTries n t.table (first ∷ []) ways
+  pub vain : ((n ≡ budget) × (0 < length ways))
+      ⊎ ((n < budget) × ((left : List Way) × (way : Way) × (ways ≡ left ++ way ∷ []) × IsUntold t hook budget way))
 
--- so many steps use the budget up: they are as many, or looked at 50 times as many rules, of which a step sees each once at most
-abbrev pub IsUsedUp : Table → ℕ → ℕ → Type 0
-IsUsedUp t n budget = (n ≡ budget) ⊎ (budget ≤ n * rules_in t.chains / 50)
-
--- the packets that the rule's box has at the hook are searched, whatever holds, and each scope that came to the rule has no packet that a line writes, or
--- one whose walk may be too long: the budget is used up with a task left, a trail is full, or the search is at its end and some scope came to the
--- rule, or a leaf has it on its trail
+-- it is sought in vain; or no numbers for the chains rule out walks that are too long
 abbrev pub MayLiveUnder : Whole → Step → Hook → ℕ → Type 0
-MayLiveUnder t step hook budget =
-    (given : Given) × IsBoxAt t.table step hook given × (n : ℕ) × (front : Front) × (came : List Scope)
-    × SearchesTo t hook step (unasked given.area) n front came × All (IsUnseen t hook budget) came
-    × ((IsUsedUp t.table n budget × (0 < length front.tasks.items)) ⊎ (((n < budget) × IsFull front) ⊎ ((n ≤ budget) × HasCome step front came)))
+MayLiveUnder t step hook budget = IsSoughtInVain t step hook budget ⊎ (IsBounded t.table hook → ⊥)
 
 -- the same where no rule needs anything
 abbrev pub MayLive : Table → Step → Hook → ℕ → Type 0

@@ -31,7 +31,7 @@ AreFew Apart = Unit {0}
 AreFew (Parts inside outside) = length outside.items ≤ length all_fields
 AreFew (ByPorts again outside) = (length again.items ≤ 2) × (length outside.items ≤ length all_fields)
 
--- a part of a box has numbers that are listed on a field alone, or that aren't alone, and the box has some of the others
+-- a part of a box has only numbers that are listed on a field, or only such as aren't listed there; and the box has some of the others, too
 pub record IsSideOf (field : Field) (listed : SpanSet) (box part : List SpanSet) : Type 0 where
   pub side : Bool
   pub here : (numbers : List ℕ) → IsPoint numbers → Has part numbers → has listed.intervals (number_on numbers field) ≡ side

@@ -1,16 +1,17 @@
 -- Where a packet may be that hasn't come to a rule: in each chain at the first so many rules, and back from some chains. If all that it may meet there leaves it
 -- there, it comes to the rule.
-use Rattle.std.specs.Prelude.{◌≡◌, ◌⊎◌, ℕ, ◌+◌, ◌<◌, true, length, List, Option, Some, None, IsTrue, IsFalse, slice_index}
+use Rattle.std.specs.Prelude.{◌≡◌, ◌⊎◌, ℕ, ◌+◌, ◌<◌, true, length, List, Option, Some, None, Contains, IsTrue, IsFalse, slice_index}
 use Rattle.fields.specs.packet.Packet.{PacketView as Packet}
 use Rattle.rules.specs.declared.rule.target.Target.{Target}
 use Rattle.rules.specs.declared.rule.target.Target.TheVariants as target
 use Rattle.rules.specs.rule.Actions.{target_of}
 use Rattle.rules.specs.rule.Allows.{matches}
 use Rattle.rules.specs.rule.Rules.{Rule}
-use Rattle.table.specs.chains.Table.{Chain, chain_at}
+use Rattle.table.specs.chains.Table.{Chain, Table, chain_at}
+use Rattle.table.specs.declared.verdict.Verdict.TheVariants.{TooLong}
 use Rattle.table.specs.declared.walk.trail.Step.{Step}
 use Rattle.table.specs.walk.Cases.{next_rule}
-use Rattle.table.specs.walk.Walk.{Rest}
+use Rattle.table.specs.walk.Walk.{Entry, Rest, walk}
 use Rattle.questions.specs.Ends.{rule_at}
 use Rattle.questions.specs.Foreign.{Agrees, Assignment, all_hold}
 use Rattle.questions.specs.Scopes.{table_of}
@@ -62,3 +63,7 @@ pub record AreMetIn (subject : Subject) (p : Packet) (answers : List Answer) (wa
 -- of each chain
 abbrev pub AreMetBefore : Subject → Packet → List Answer → Step → List ℕ → List ℕ → Type 0
 AreMetBefore subject p answers wanted far back = (place : ℕ) → place < length (table_of subject).chains → AreMetIn subject p answers wanted far back place
+
+-- the packet comes to the rule, or its walk is too long
+abbrev pub IsSought : Table → Entry → Packet → Type 0
+IsSought t entry p = Contains (walk t p).trail entry ⊎ ((walk t p).verdict ≡ TooLong)

@@ -1,4 +1,4 @@
--- How a step parts the packets of a task among tasks and leaves.
+-- How a step parts the box of a task among tasks and leaves.
 use Rattle.std.specs.Prelude.{◌≡◌, ◌⊎◌, ℕ, ◌+◌, ◌≤◌, List, [], ◌∷◌, ◌++◌, length, map, reverse, All, AllPairs}
 use Rattle.fields.specs.numbers.Spans.{SpanSet}
 use Rattle.classify.specs.classifier.Classifier.{IsPoint}
@@ -12,7 +12,7 @@ use Rattle.questions.specs.declared.walking.scope.Scope.{Scope}
 use Rattle.questions.specs.declared.walking.task.Leaf.{Leaf}
 use Rattle.questions.specs.declared.walking.task.Task.{Task}
 
--- two scopes share no packet: their boxes share no numbers, or no assignment gives the answers of both
+-- two scopes are apart: their boxes share no numbers, or no assignment gives the answers of both
 abbrev pub AreApart : Scope → Scope → Type 0
 AreApart one other = ShareNone one.area other.area ⊎ ((a : Assignment) → Agrees a one.answers → Agrees a other.answers → ⊥)
 
@@ -22,7 +22,7 @@ pub record IsWithin (own part : Scope) : Type 0 where
   pub some : HasNumbers own.area → HasNumbers part.area
   pub answers : (more : List Answer) × (part.answers ≡ own.answers ++ more)
 
--- scopes are parts of another one, and no two of them share a packet
+-- scopes are parts of another one, and any two of them are apart
 pub record AreParts (own : Scope) (parts : List Scope) : Type 0 where
   pub each : All (IsWithin own) parts
   pub apart : AllPairs AreApart parts

@@ -7,7 +7,7 @@ use Rattle.fields.specs.packet.Packet.{PacketView as Packet}
 use Rattle.rules.specs.declared.rule.target.Target.{Target}
 use Rattle.rules.specs.rule.Allows.{matches}
 use Rattle.rules.specs.rule.Rules.{Rule}
-use Rattle.table.specs.chains.Table.{Chain}
+use Rattle.table.specs.chains.Table.{Chain, Table}
 use Rattle.table.specs.declared.walk.trail.Step.{Step}
 use Rattle.table.specs.walk.Walk.{Rest, walk}
 use Rattle.questions.specs.Ends.{IsRule, rule_at}
@@ -40,10 +40,16 @@ pub record AddsParts (scope : Scope) (Other : Assignment → Packet → Type 0) 
   pub kept : (a : Assignment) (p : Packet) → Any (IsHere a p) old → Any (IsHere a p) new
   pub parted : (a : Assignment) (p : Packet) → IsAtHook p → IsHere a p scope → Any (IsHere a p) new ⊎ Other a p
 
--- no packet of the scopes is lost, and each of some boxes is in one of them, where these answers are right
+-- a scope has one of some boxes, and these answers
+pub record IsBoxUnder (boxes : List (List SpanSet)) (answers : List Answer) (scope : Scope) : Type 0 where
+  pub area : Contains boxes scope.area
+  pub same : scope.answers ≡ answers
+
+-- no packet of the scopes is lost, and each of some boxes is in one of them, where these answers are right; no others are put there
 pub record AddsBoxes (boxes : List (List SpanSet)) (answers : List Answer) (old new : List Scope) : Type 0 where
   pub kept : (a : Assignment) (p : Packet) → Any (IsHere a p) old → Any (IsHere a p) new
   pub each : (a : Assignment) (p : Packet) → IsInSome boxes p.values → Agrees a answers → Any (IsHere a p) new
+  pub only : (more : List Scope) × (new ≡ old ++ more) × All (IsBoxUnder boxes answers) more
 
 -- a rule that is looked at is the one of a step
 pub record IsSeen (subject : Subject) (by : Step) (seen : Seen) : Type 0 where
@@ -94,6 +100,10 @@ pub record MayCome (subject : Subject) (a : Assignment) (p : Packet) (way : Way)
 abbrev pub IsPlaceOf : Way → Step → Type 0
 IsPlaceOf way place = (place ≡ way.wanted) ⊎ Contains way.places.items place
 
+-- the packet is matched by the way's own rule and by all rules of its places
+abbrev pub AllMatch : Table → Packet → Way → Type 0
+AllMatch t p way = (place : Step) → IsPlaceOf way place → IsRule t place → matches p.values (rule_at t place) ≡ true
+
 -- a rule stands ahead of one of a way in its chain
 pub record IsAheadOn (way : Way) (by place : Step) : Type 0 where
   pub own : IsPlaceOf way place
@@ -119,6 +129,12 @@ pub record TakesOver (subject : Subject) (hook : Hook) (way : Way) (old new : Li
   pub kept : (a : Assignment) (p : Packet) → Any (MayCome subject a p) old → Any (MayCome subject a p) new
   pub taken : (a : Assignment) (p : Packet) → IsAtHook p → p.hook ≡ hook → MayCome subject a p way → Any (MayCome subject a p) new
   pub wanted : KeepsWanted way old new
+
+-- the same way, for one of some scopes
+pub record IsForOne (way : Way) (scopes : List Scope) (part : Way) : Type 0 where
+  pub wanted : part.wanted ≡ way.wanted
+  pub places : part.places.items ≡ way.places.items
+  pub scope : Contains scopes part.scope
 
 -- no packet that may come by the ways is lost
 abbrev pub KeepsWays : List Way → List Way → Type 0

@@ -49,8 +49,9 @@ pub record IsFurther (t : Table) (known : Known) (scope : Scope) (task next : Ta
   pub later : WaitLater task.rests.items next.rests.items
   pub waits : (p : Packet) → IsAtHook p → IsOf known p scope → WaitsIn t known p task → WaitsIn t known p next
 
--- the packets of the task that are of a scope go on to a later rule of its chain, which allows some of its packets, and from there, whatever holds; each
--- task that they are in then has got on, and no two of these tasks, and of the leaves, share a packet; there are at most two more than fields
+-- The task goes on to a rule which allows some of its numbers on each field, or to the end of its chain. There, whatever holds, no packet of it is lost
+-- that is of a scope. Each task that is made of it got on. All that is made of it has parts of its scope, no two of which share numbers under
+-- answers that don't contradict each other, and these are at most two more than there are fields.
 pub record GoesOn (t : Whole) (policy : Verdict) (scope : Scope) (task : Task) (old new : Front) : Type 0 where
   pub next : Task
   pub further : (a : Assignment) → IsFurther (left_under t a) (known_under t a) scope task next

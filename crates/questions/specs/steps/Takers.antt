@@ -1,5 +1,5 @@
 -- The packets that a rule matches, and which rules and policies decide some leaves.
-use Rattle.std.specs.Prelude.{◌≡◌, ◌⊎◌, true, Option, None, List, All, AllPairs, Any, Contains, MatchOption}
+use Rattle.std.specs.Prelude.{◌≡◌, ◌⊎◌, true, Option, None, List, All, AllPairs, Any, Contains, IfSome, MatchOption}
 use Rattle.fields.specs.declared.packet.hook.Hook.{Hook}
 use Rattle.fields.specs.packet.Packet.{PacketView as Packet, IsPacket}
 use Rattle.rules.specs.rule.Allows.{allows_each, matches}
@@ -23,6 +23,17 @@ pub record IsBoxAt (t : Table) (step : Step) (hook : Hook) (given : Given) : Typ
   pub there : given.hook ≡ hook
   pub all : (p : Packet) → IsMatchedAt t step hook p → IsIn given.area p
   pub only : (p : Packet) → IsPacket p → p.hook ≡ hook → IsIn given.area p → HasOwnInterfaces p × (allows_each p.values (rule_at t step) ≡ true)
+
+-- another rule allows each number of the packet, if one is given
+abbrev pub IsLetBy : Table → Option Step → Packet → Type 0
+IsLetBy t by p = IfSome by (λ other. allows_each p.values (rule_at t other) ≡ true)
+
+-- the box has all packets at the hook that the rule matches and this other one lets in, and only packets with interfaces that packets at the hook have
+-- and with numbers that both allow
+pub record IsBoxBy (t : Table) (step : Step) (by : Option Step) (hook : Hook) (given : Given) : Type 0 where
+  pub there : given.hook ≡ hook
+  pub all : (p : Packet) → IsMatchedAt t step hook p → IsLetBy t by p → IsIn given.area p
+  pub only : (p : Packet) → IsPacket p → p.hook ≡ hook → IsIn given.area p → HasOwnInterfaces p × (allows_each p.values (rule_at t step) ≡ true) × IsLetBy t by p
 
 -- this rule is among the deciders or, where no rule is given, the policy of the hook is
 abbrev pub IsAmong : Takers → Hook → Option Step → Type 0

@@ -1,16 +1,59 @@
--- What came of a way to a rule.
-use Rattle.std.specs.Prelude.{◌≡◌, List}
+-- How a packet that comes to a rule is sought: ways to the rule are tried, one after another.
+use Rattle.std.specs.Prelude.{◌≡◌, ◌⊎◌, ℕ, zero, suc, ◌<◌, List, [], ◌∷◌, ◌++◌, length, All}
 use Rattle.fields.specs.declared.packet.hook.Hook.{Hook}
-use Rattle.questions.specs.asked.Always.{SaysAt}
-use Rattle.questions.specs.declared.asked.rule.Life.TheVariants.{Live}
-use Rattle.questions.specs.declared.foreign.subject.Subject.{Subject}
-use Rattle.questions.specs.declared.seeking.seek.Tried.{Tried}
-use Rattle.questions.specs.declared.seeking.seek.Tried.TheVariants.{Comes, Parted, Unknown}
+use Rattle.classify.specs.classifier.Classifier.{IsPoint}
+use Rattle.table.specs.chains.Table.{Table}
+use Rattle.table.specs.declared.walk.trail.Step.{Step}
+use Rattle.questions.specs.Scopes.{Whole}
+use Rattle.questions.specs.boxes.Area.{Has, IsNarrower}
+use Rattle.questions.specs.boxes.Calls.{IsCall}
 use Rattle.questions.specs.declared.seeking.way.Way.{Way}
-use Rattle.questions.specs.steps.Seeking.{TakesOver}
+use Rattle.questions.specs.declared.walking.scope.Scope.{Scope}
+use Rattle.questions.specs.steps.Meant.{IsScopeAt}
+use Rattle.questions.specs.steps.Seeking.{top_of}
 
--- a packet comes to the rule, or the ways take over the packets of this one; or nothing is known, and they stay
-abbrev pub IsTried : Subject → Hook → Way → List Way → List Way → Tried → Type 0
-IsTried subject hook way old new (Comes words answers) = SaysAt subject way.wanted hook (Live words answers)
-IsTried subject hook way old new Parted = TakesOver subject hook way old new
-IsTried subject hook way old new Unknown = new ≡ old
+-- a scope has only numbers of another one's box
+abbrev pub LiesIn : Scope → Scope → Type 0
+LiesIn whole part = (numbers : List ℕ) → IsPoint numbers → Has part.area numbers → Has whole.area numbers
+
+-- the first way: from the rule itself, for packets at the hook that its box has, under answers that are right where all holds that it needs
+pub record IsFirst (t : Whole) (step : Step) (hook : Hook) (way : Way) : Type 0 where
+  pub wanted : way.wanted ≡ step
+  pub own : IsScopeAt t.table t.needs step hook way.scope
+  pub places : way.places.items ≡ []
+
+-- a way is longer than another one by a rule that enters the chain in which that begins, and its box has only numbers of that one's
+pub record IsLonger (t : Table) (way longer : Way) : Type 0 where
+  pub wanted : longer.wanted ≡ way.wanted
+  pub by : Step
+  pub enters : IsCall t (record { to = (top_of way.wanted way.places.items).chain; by = by })
+  pub places : longer.places.items ≡ way.places.items ++ by ∷ []
+  pub inside : LiesIn way.scope longer.scope
+
+-- the box of a scope has only numbers of another one's; and on some field a number is gone, or there are more answers
+pub record IsLess (whole part : Scope) : Type 0 where
+  pub inside : LiesIn whole part
+  pub less : IsNarrower whole.area part.area ⊎ (length whole.answers < length part.answers)
+
+-- the same way, for such a scope
+pub record IsWayFor (way part : Way) : Type 0 where
+  pub wanted : part.wanted ≡ way.wanted
+  pub places : part.places.items ≡ way.places.items
+  pub less : IsLess way.scope part.scope
+
+-- what takes the place of a way that is tried: longer ways, and the same way for such parts of its scope
+abbrev pub TakesPlace : Table → Way → Way → Type 0
+TakesPlace t way next = IsLonger t way next ⊎ IsWayFor way next
+
+-- ways are put on those that were there, and this holds of each
+abbrev pub AddsWays : (Way → Type 0) → List Way → List Way → Type 0
+AddsWays Holds old new = (more : List Way) × (new ≡ old ++ more) × All Holds more
+
+-- the newest way is tried
+abbrev pub IsTry : Table → List Way → List Way → Type 0
+IsTry t old new = (left : List Way) × (way : Way) × (old ≡ left ++ way ∷ []) × AddsWays (TakesPlace t way) left new
+
+-- so many tries
+abbrev pub AreTries : ℕ → Table → List Way → List Way → Type 0
+AreTries zero t old new = old ≡ new
+AreTries (suc n) t old new = (mid : List Way) × AreTries n t old mid × IsTry t mid new

@@ -9,11 +9,12 @@ ghost use Rattle.questions.specs.declared.asked.likeness.Likeness.TheVariants.{S
 
 use crate::asked::changes::{Changes, changes_under};
 use crate::asked::equal::are_equal_with_needs;
-use crate::asked::likeness::{Course, Likeness};
+use crate::asked::likeness::Likeness;
 use crate::asked::verdicts::likeness_at;
 use crate::boxes::boxed_table::BoxedTable;
 use crate::foreign::need::Needs;
 use crate::foreign::subject::Subject;
+use crate::walking::course::Course;
 use fields::Hook;
 use std::alloc::{AllocError, Global};
 
@@ -69,7 +70,8 @@ pub fn compare_at_under<'a>(
 /// number.
 ///
 /// It goes as in `compare`, also for equal tables whose rules need the same; rules that both have are those with the same needs, and a changed rule's
-/// packets are asked for under answers that meet what it needs.
+/// packets are asked for under answers that meet what it needs. Where the walks of these don't tell, a packet that comes to the rule walks alone,
+/// with what other rules need answered so that it fails.
 ///
 /// # Errors
 ///
@@ -141,8 +143,9 @@ pub fn compare_at(
 /// Otherwise the chains of one name are aligned: rules that both have, in one order, are set aside, and the others are the changes. A packet that
 /// matches no changed rule gets the same verdict from both tables, if its hook has the same policy in both; so does one that matches only changed
 /// rules that are dead in their own tables. So each changed rule is searched for first, as by `dead`; and for each that isn't dead, and each hook,
-/// the packets of the rule's box walk the first table as boxes, and each leaf then walks the second one. Where the policies of a hook differ,
-/// all packets of the hook do so. Each of these walks has `budget` steps (`leaves`).
+/// the packets of the rule's box walk the first table as boxes, and each leaf then walks the second one. Where these walks don't tell, the rule is
+/// searched for once more, and a packet that comes to it walks both tables alone. Where the policies of a hook differ, all packets of the hook walk
+/// as boxes. Each of these walks has `budget` steps (`leaves`).
 ///
 /// # Errors
 ///

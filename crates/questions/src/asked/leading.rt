@@ -1,5 +1,5 @@
 //! The chains from which jumps and gotos lead to a chain.
-ghost use Rattle.std.specs.Prelude.{◌≡◌, ◌≢◌, ◌<◌, ◌↔◌, false, true, length, option_map, slice_index_or, IfOk, IfSome, IsTrue};
+ghost use Rattle.std.specs.Prelude.{◌≡◌, ◌<◌, ◌↔◌, false, true, length, option_map, slice_index_or, IfOk, IfSome, IsTrue};
 ghost use Rattle.fields.specs.declared.packet.hook.Hook.{Hook as HookView};
 ghost use Rattle.table.specs.chains.Table.{chain_at};
 ghost use Rattle.table.specs.steps.Kept.{hook_index};
@@ -103,14 +103,6 @@ fn is_first(place: usize) -> bool
     ensures { IsTrue result → place < 3 }
 {
     place < Hook::ALL.len()
-}
-
-// Whether the chain at a place is that of another hook, so that no jumps and gotos lead there.
-pub(crate) fn is_of_other(hook: Hook, place: usize) -> bool
-    ensures first { IsTrue result → place < 3 }
-    ensures other { IsTrue result → place ≢ hook_index hook }
-{
-    is_first(place) && place != hook_index(hook)
 }
 
 // A mark for each chain from which rules that count lead to the one at a place, also in no step. The marks spread until each

@@ -10,11 +10,12 @@ use crate::asked::exact::{exact_at, has_packets};
 use crate::asked::other::{all_give, other_among};
 use crate::foreign::answers::Answers;
 use crate::foreign::subject::Subject;
+use crate::walking::course::Course;
 use crate::walking::engine::leaves_under;
 use crate::walking::scope::Scope;
 use crate::walking::task::Leaf;
 use fields::{Hook, Words};
-use std::alloc::{AllocError, Global};
+use std::alloc::AllocError;
 
 /// What is known of two tables.
 #[derive(Drop)]
@@ -27,14 +28,6 @@ pub enum Likeness {
     /// suffice, a trail is full, or the tables give some packet two verdicts, and none that a line writes. There is
     /// such a hook.
     Unclear,
-}
-
-// Where packets are compared, and with how many steps for each walk.
-#[derive(Clone, Copy)]
-pub(crate) struct Course {
-    pub alloc: Global,
-    pub hook: Hook,
-    pub budget: usize,
 }
 
 // What is said of the packets of a leaf of a first table, where those of the leaves of the second one that have another verdict can't be

@@ -2,14 +2,12 @@
 ghost use Rattle.std.specs.Prelude.{◌≡◌, ◌<◌, ◌≤◌, [], false, length, IfOk, IsTrue, MatchOption};
 ghost use Rattle.rules.specs.boxing.Boxed.{set_on};
 ghost use Rattle.table.specs.chains.Table.{chain_at};
-ghost use Rattle.table.specs.declared.walk.trail.Step.{Step as Place};
 ghost use Rattle.questions.specs.Ends.{IsRule, rule_at};
 ghost use Rattle.questions.specs.Scopes.{table_of};
 ghost use Rattle.questions.specs.asked.Reason.{Explains, IsPossible, IsReached};
 ghost use Rattle.questions.specs.asked.Unknown.{IsUndecided, IsUndecidedUnder};
-ghost use Rattle.questions.specs.asked.Why.{ExplainsUnder, HasPacketUnder, IsReasonUnder, IsTakenUnder};
+ghost use Rattle.questions.specs.asked.Why.{ExplainsUnder, IsReasonUnder, IsTakenUnder};
 ghost use Rattle.questions.specs.boxes.Area.{HasNumbers};
-ghost use Rattle.questions.specs.declared.foreign.subject.Subject.{Subject as SubjectView};
 
 use crate::asked::leading::{leading_to, none_led};
 use crate::asked::takers::{Takers, takers_of};
@@ -35,8 +33,9 @@ pub enum Reason {
     /// The rule's chain is one of some chains in which no walk begins, and just these rules of other chains jump or
     /// go to one of them. No packet is matched by one of these rules and by the rule.
     Excluded(Vec<Step>),
-    /// The rule matches some of these packets, and just these rules and policies decide them: each such packet is
-    /// decided by one of them, and each of them decides one.
+    /// The rule matches some of these packets, and just these rules and policies decide those that may come to its chain, since
+    /// it is the hook's or a rule that jumps or goes there allows each of the packet's numbers; where none may, all of them. Each
+    /// such packet is decided by one of them, and each of them decides one.
     Taken(Takers),
 }
 
@@ -52,17 +51,6 @@ fn bare_field(boxed: &Boxed) -> Option<Field>
     None
 }
 
-// Whether they decide no packet.
-fn decide_nothing(takers: &Takers) -> bool
-    ensures none { IsTrue result → (subject : SubjectView) (step : Place) → IsTakenUnder subject step takers.now → HasPacketUnder subject step → ⊥ }
-    ensures some { result ≡ false → (subject : SubjectView) (step : Place) → IsTakenUnder subject step takers.now → HasPacketUnder subject step }
-{
-    if !takers.policies.as_slice().is_empty() {
-        return false;
-    }
-    takers.rules.as_slice().is_empty()
-}
-
 // The reason that they are, if they decide anything and the rules that lead to the rule's chain let some of its packets through.
 fn reason_by(
     alloc: Global,
@@ -74,7 +62,7 @@ fn reason_by(
     ensures { IfOk result (λ reason. IsPossible (rule_at (table_of subject.now) step) → IsReached (table_of subject.now) step
         → IsTakenUnder subject.now step takers → IsReasonUnder subject.now step reason) }
 {
-    if decide_nothing(&takers) {
+    if takers.are_none() {
         return Ok(Reason::NoPacket);
     }
     match ways_into(alloc, subject.boxed, step)? {
@@ -86,8 +74,8 @@ fn reason_by(
 /// Why rule `number` of the chain at a place, both of which have to be there, is dead: the first reason in the order of `Reason`, where rules exclude
 /// packets of the rule if their boxes share none with its box. Rules count from 1. An answer also says that the rule is dead.
 ///
-/// The packets that the rule's box has walk from each hook that leads to its chain as a box, with `budget` steps each time
-/// (`leaves`), and leaves are cut by transport header.
+/// The packets that the rule's box has walk from each hook that leads to its chain as a box, those of each rule that jumps or
+/// goes there by themselves, with `budget` steps each time (`leaves`), and leaves are cut by transport header.
 ///
 /// There is no answer only where, at a hook from whose chain jumps and gotos lead to the rule's chain, the rule tests
 /// both ports at once (`Rule::asks_both`), the steps don't suffice, a trail is full, or a walk comes to the rule.

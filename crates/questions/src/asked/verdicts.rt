@@ -8,13 +8,16 @@ ghost use Rattle.questions.specs.asked.Changes.{AreChangesUnder};
 ghost use Rattle.questions.specs.asked.Differing.{IsNotDead, IsUnclearIf, MayDiffer};
 ghost use Rattle.questions.specs.steps.Compared.{MayDifferOf};
 
+use crate::asked::alone::other_alone;
 use crate::asked::changes::Changes;
-use crate::asked::likeness::{Course, Likeness, likeness_on};
+use crate::asked::likeness::{Likeness, likeness_on};
 use crate::asked::matching::scope_at;
+use crate::asked::other::Shown;
 use crate::asked::rule::{Life, life_at};
 use crate::boxes::area::Area;
 use crate::foreign::answers::Answers;
 use crate::foreign::subject::Subject;
+use crate::walking::course::Course;
 use crate::walking::engine::policy_at;
 use crate::walking::scope::Scope;
 use std::alloc::AllocError;
@@ -27,7 +30,7 @@ fn is_dead_at(subject: &Subject<'_>, course: Course, step: Step) -> Result<bool,
         → IsAlwaysDeadAt subject.now step course.hook × AreAlwaysShort subject.now step course.hook) }
     ensures other { IfOk result (λ is. IsFalse is → IsNotDead (whole_of subject.now) step course.hook course.budget) }
 {
-    match life_at(course.alloc, subject, course.hook, step, course.budget)? {
+    match life_at(subject, course, step)? {
         Life::Dead => Ok(true),
         Life::Live(_, _) => Ok(false),
         Life::Unclear => Ok(false),
@@ -35,7 +38,7 @@ fn is_dead_at(subject: &Subject<'_>, course: Course, step: Step) -> Result<bool,
 }
 
 // What is said of the packets that a rule of one of the tables matches. Where the rule is dead there, its packets are those of the other
-// changed rules.
+// changed rules. Where the walks of all its packets don't tell, one of them may.
 fn likeness_of<'a>(
     old: &Subject<'a>,
     new: &Subject<'a>,
@@ -57,7 +60,15 @@ fn likeness_of<'a>(
     if is_dead_at(own, course, step)? {
         return Ok(Likeness::Same);
     }
-    likeness_on(old, new, course, start)
+    match likeness_on(old, new, course, start)? {
+        Likeness::Same => return Ok(Likeness::Same),
+        Likeness::Differ(words, answers) => return Ok(Likeness::Differ(words, answers)),
+        Likeness::Unclear => {}
+    }
+    match other_alone(old, new, own, course, step)? {
+        Some(Shown { words, answers }) => Ok(Likeness::Differ(words, answers)),
+        None => Ok(Likeness::Unclear),
+    }
 }
 
 // What is said of the packets that some of these rules match.

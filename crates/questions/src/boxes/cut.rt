@@ -1,8 +1,10 @@
 //! A box of packets cut by a rule: the packets that it matches, and parts with all the others; or, where that depends
 //! on both ports, parts on which the rule has to be tested again.
-ghost use Rattle.std.specs.Prelude.{◌≡◌, ◌<◌, ◌≤◌, ◌⊎◌, ℕ, List, All, length, IfOk, OnOk};
+ghost use Rattle.std.specs.Prelude.{◌≡◌, ◌<◌, ◌≤◌, ◌⊎◌, ℕ, true, List, All, length, IfOk, OnOk};
+ghost use Rattle.fields.specs.numbers.Spans.{SpanSet};
 ghost use Rattle.fields.specs.numbers.Field.{top};
 ghost use Rattle.rules.specs.boxing.Boxed.{IsBox, IsBoxOf, set_on};
+ghost use Rattle.rules.specs.rule.Allows.{matches};
 ghost use Rattle.rules.specs.rule.Crossing.{IsListedByRule, IsParted};
 ghost use Rattle.rules.specs.rule.Rules.{Rule};
 ghost use Rattle.classify.specs.classifier.Classifier.{IsPoint};
@@ -29,6 +31,22 @@ pub(crate) enum Cut {
     // The rule is to be asked again of the first boxes, which differ by the ports of one field: the packets that it matches
     // are in one of these, each other there or in one of those after them.
     ByPorts(Vec<Area>, Vec<Area>),
+}
+
+// What a rule may match of a box that it cuts: all of one part, or parts that are cut again.
+pub(crate) fn inside_of(alloc: Global, cut: Cut) -> Result<Vec<Area>, AllocError>
+    ensures { IfOk result (λ parts. (rule : Rule) (box : List SpanSet) (numbers : List ℕ) → IsCutBy rule box cut → IsPoint numbers → matches numbers rule ≡ true
+        → Has box numbers → IsInSome parts.items numbers) }
+{
+    match cut {
+        Cut::Apart => Ok(Vec::new(alloc)),
+        Cut::Parts(inside, _others) => {
+            let mut parts = Vec::new(alloc);
+            parts.push(inside)?;
+            Ok(parts)
+        }
+        Cut::ByPorts(again, _others) => Ok(again),
+    }
 }
 
 // Adds the part of a box that leaves another one at a place, if it has packets.
@@ -59,7 +77,11 @@ fn put_part(
 
 // The parts of a box that aren't in another one: those of later fields, which are narrower, come first in the list, and a walk goes on
 // with them first.
-fn outside(alloc: Global, own: &[Spans], other: &[Spans]) -> Result<Vec<Area>, AllocError>
+pub(crate) fn outside(
+    alloc: Global,
+    own: &[Spans],
+    other: &[Spans],
+) -> Result<Vec<Area>, AllocError>
     requires own { IsBox own.now }
     requires other { IsBox other.now }
     requires met { AreMet own.now other.now }

@@ -64,11 +64,6 @@ impl Ends {
     {
         self.last < other.first || other.last < self.first
     }
-
-    // Whether all numbers between these ends are between others.
-    fn lie_in(self, other: Ends) -> bool {
-        other.first <= self.first && self.last <= other.last
-    }
 }
 
 // The ends of a box.
@@ -105,14 +100,5 @@ impl Outline {
             || self.destination_port.are_apart(other.destination_port)
             || self.protocol.are_apart(other.protocol)
             || self.source_port.are_apart(other.source_port)
-    }
-
-    // Whether its ends lie between those of another outline on each field.
-    pub(crate) fn lies_in(&self, other: &Outline) -> bool {
-        self.source.lie_in(other.source)
-            && self.destination.lie_in(other.destination)
-            && self.destination_port.lie_in(other.destination_port)
-            && self.protocol.lie_in(other.protocol)
-            && self.source_port.lie_in(other.source_port)
     }
 }

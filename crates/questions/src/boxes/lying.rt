@@ -2,7 +2,7 @@
 ghost use Rattle.std.specs.Prelude.{◌≡◌, ◌≤◌, ℕ, List, false, true, IsFalse, IsTrue};
 ghost use Rattle.fields.specs.numbers.Spans.{has};
 ghost use Rattle.rules.specs.boxing.Boxed.{IsBox};
-ghost use Rattle.questions.specs.boxes.Area.{Has};
+ghost use Rattle.questions.specs.boxes.Area.{Has, IsNarrower};
 
 use fields::{FIELDS, Interval, Spans};
 
@@ -37,7 +37,8 @@ pub(crate) fn is_part(own: &Spans, other: &Spans) -> bool
 pub(crate) fn lies_in(own: &[Spans], other: &[Spans]) -> bool
     requires own { IsBox own.now }
     requires other { IsBox other.now }
-    ensures { IsTrue result → (numbers : List ℕ) → Has own.now numbers → Has other.now numbers }
+    ensures all { IsTrue result → (numbers : List ℕ) → Has own.now numbers → Has other.now numbers }
+    ensures some { IsFalse result → IsNarrower own.now other.now }
 {
     for place in 0..FIELDS {
         if !is_part(&own[place], &other[place]) {

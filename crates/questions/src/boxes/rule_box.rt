@@ -64,11 +64,6 @@ impl RuleBox {
         self.outline.is_apart(outline)
     }
 
-    // Whether it may have all packets of a box that has this outline.
-    pub(crate) fn may_have(&self, outline: &Outline) -> bool {
-        outline.lies_in(&self.outline)
-    }
-
     // Whether it has no packet in common with a box, given the box's outline. It takes no memory.
     pub(crate) fn is_apart(&self, area: &Area, outline: &Outline) -> bool
         requires { IsOutlined area.now outline.now }

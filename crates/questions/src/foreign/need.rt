@@ -20,16 +20,20 @@ pub struct Need {
 #[derive(Drop)]
 pub struct Needs {
     chains: Vec<Vec<Vec<Need>>>,
+    // Whether no rule needs anything.
+    none: bool,
 }
 
 impl Model for Needs {
-    ghost use Rattle.std.specs.Prelude.{List};
-    ghost use Rattle.questions.specs.Foreign.{needs_listed};
+    ghost use Rattle.std.specs.Prelude.{◌↔◌, List, IsTrue};
+    ghost use Rattle.questions.specs.Foreign.{AreWithoutNeeds, needs_listed};
     ghost use Rattle.questions.specs.declared.foreign.need.Need.{Need};
 
     ghost Value = { List (List (List Need)) };
 
     ghost view = { λ needs. needs_listed needs.chains };
+
+    ghost invariant = { λ needs. IsTrue needs.none ↔ AreWithoutNeeds (needs_listed needs.chains) };
 }
 
 impl Needs {
@@ -39,14 +43,17 @@ impl Needs {
     {
         Needs {
             chains: Vec::new(alloc),
+            none: true,
         }
     }
 
     /// What is listed, chain by chain in the order of a listing of the table, and rule by rule. A rule for which nothing is listed needs nothing.
+    /// It takes a look at each.
     pub fn of(chains: Vec<Vec<Vec<Need>>>) -> Needs
         ensures { result ≡ needs_listed chains }
     {
-        Needs { chains }
+        let none = are_free(chains.as_slice());
+        Needs { chains, none }
     }
 
     // What is listed, chain by chain; it is lent.
@@ -56,12 +63,12 @@ impl Needs {
         self.chains.as_slice()
     }
 
-    // Whether no rule needs anything. It takes a look at each.
+    // Whether no rule needs anything.
     pub(crate) fn are_none(&self) -> bool
         ensures none { IsTrue result → AreWithoutNeeds self.now }
         ensures some { result ≡ false → AreWithoutNeeds self.now → ⊥ }
     {
-        are_free(self.listed())
+        self.none
     }
 
     // Whether the same is listed. It takes no memory, and time linear in the needs.

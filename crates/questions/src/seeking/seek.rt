@@ -1,18 +1,18 @@
 //! The search for a packet that comes to a rule: packets of its box walk, one after another, and each that is led away says
 //! which packets to try next. Where none is left, the rule is dead.
-ghost use Rattle.std.specs.Prelude.{◌≡◌, true, Contains, IfOk, IsTrue};
-ghost use Rattle.fields.specs.declared.packet.hook.Hook.{Hook as At};
-ghost use Rattle.table.specs.declared.walk.trail.Step.{Step as Place};
+ghost use Rattle.std.specs.Prelude.{All, Contains, IfOk, IfSome, IsTrue};
 ghost use Rattle.table.specs.walk.Walk.{walk};
 ghost use Rattle.questions.specs.Ends.{IsRule};
 ghost use Rattle.questions.specs.Foreign.{Agrees, Assignment};
 ghost use Rattle.questions.specs.Leaves.{entry_of};
-ghost use Rattle.questions.specs.Scopes.{answered, table_of};
+ghost use Rattle.questions.specs.Scopes.{answered, table_of, whole_of};
+ghost use Rattle.questions.specs.Written.{IsSampleOf};
 ghost use Rattle.questions.specs.asked.Always.{SaysAt};
+ghost use Rattle.questions.specs.asked.Unclear.{IsSoughtInVain, IsUnclearAt};
 ghost use Rattle.questions.specs.boxes.Area.{IsAtHook};
-ghost use Rattle.questions.specs.declared.foreign.subject.Subject.{Subject as Asked};
-ghost use Rattle.questions.specs.steps.Seeking.{AreAllWays};
-ghost use Rattle.questions.specs.steps.Tries.{IsTried};
+ghost use Rattle.questions.specs.steps.Seeking.{AreScopesOf};
+ghost use Rattle.questions.specs.steps.Tried.{IsElsewhere, IsTried};
+ghost use Rattle.questions.specs.steps.Tries.{IsLess};
 
 use crate::asked::matching::scope_at;
 use crate::asked::necessary::is_always_on;
@@ -21,17 +21,18 @@ use crate::foreign::answers::Answers;
 use crate::foreign::subject::Subject;
 use crate::sampling::sample::{Sample, sample_of};
 use crate::seeking::before::Approach;
-use crate::seeking::parting::first_ways;
+use crate::seeking::less::are_less;
+use crate::seeking::parting::parts_without;
 use crate::seeking::steering::{Ending, steer};
 use crate::seeking::straying::others;
+use crate::seeking::walked::walked;
 use crate::seeking::way::{Way, add_longer, add_parts};
+use crate::walking::course::Course;
 use crate::walking::engine::hook_index;
+use crate::walking::scope::Scope;
 use fields::{Hook, Packet, Words};
 use std::alloc::{AllocError, Global};
 use table::Step;
-
-// How many ways are tried, each by a packet.
-const TRIES: usize = 4096;
 
 // What came of a way.
 #[derive(Drop)]
@@ -71,90 +72,121 @@ fn is_shown(
     is_always_on(alloc, &approach, budget)
 }
 
-// What comes of a way.
-fn try_way(
+// The packets of a way's scope that some rules don't lead away, if these lead some away.
+fn led_away(
     alloc: Global,
     subject: &Subject<'_>,
-    hook: Hook,
     way: &Way,
-    ways: &mut Vec<Way>,
-    budget: usize,
-) -> Result<Tried, AllocError>
-    requires { IsRule (table_of subject.now) way.now.wanted }
-    ensures { IfOk result (IsTried subject.now hook way.now ways.old.items ways.new.items) }
+    path: &[Step],
+) -> Result<Option<Vec<Scope>>, AllocError>
+    ensures all { IfOk result (λ found. IfSome found (λ scopes. AreScopesOf subject.now way.now scopes.items)) }
+    ensures less { IfOk result (λ found. IfSome found (λ scopes. All (IsLess way.now.scope) scopes.items)) }
 {
-    let Some(sample) = sample_of(alloc, hook, &way.scope.area)? else {
-        let is_none = way.scope.area.is_empty();
-        return Ok(if is_none {
-            Tried::Parted
-        } else {
-            Tried::Unknown
-        });
+    let Some(scopes) = others(alloc, subject, way, path)? else {
+        return Ok(None);
     };
-    let Sample { words, packet } = sample;
-    let answers = way.scope.answers.copy(alloc)?;
-    match steer(alloc, subject, &packet, way, answers, budget)? {
-        Ending::Comes(answers) => {
-            let chain = way.chain();
-            if chain != hook_index(hook) {
-                if chain >= subject.boxed.table.chain_count() {
-                    return Ok(Tried::Unknown);
-                }
-                add_longer(alloc, subject, hook, way, ways)?;
-                return Ok(Tried::Parted);
-            }
-            if is_shown(alloc, subject, &packet, &answers, way.wanted, budget)? {
-                answers.stand();
-                return Ok(Tried::Comes(words, answers));
-            }
-            Ok(Tried::Unknown)
-        }
-        Ending::Strays(path) => {
-            let Some(scopes) = others(alloc, subject, way, path.as_slice())? else {
-                return Ok(Tried::Unknown);
-            };
-            add_parts(alloc, way, scopes, ways)?;
-            Ok(Tried::Parted)
-        }
+    if are_less(&way.scope, scopes.as_slice()) {
+        return Ok(Some(scopes));
     }
+    Ok(None)
 }
 
-// What is known where no way is left, or as many were tried as may be.
-fn at_end(clear: bool, ways: &[Way]) -> Life
-    ensures { (subject : Asked) (step : Place) (hook : At) → (clear ≡ true → AreAllWays subject step hook ways.now) → SaysAt subject step hook result }
+// Whether a way begins in a chain that is there, and isn't the hook's.
+fn begins_elsewhere(subject: &Subject<'_>, hook: Hook, way: &Way) -> bool
+    ensures { IsTrue result → IsElsewhere (table_of subject.now) hook way.now }
 {
-    if clear && ways.is_empty() {
-        return Life::Dead;
+    let chain = way.chain();
+    chain != hook_index(hook) && chain < subject.boxed.table.chain_count()
+}
+
+// What comes of a way, by a packet of its scope.
+fn try_by(
+    subject: &Subject<'_>,
+    course: Course,
+    way: &Way,
+    sample: Sample,
+    ways: &mut Vec<Way>,
+) -> Result<Tried, AllocError>
+    requires step { IsRule (table_of subject.now) way.now.wanted }
+    requires sample { IsSampleOf course.hook way.now.scope.area sample.words sample.packet }
+    ensures { IfOk result (IsTried subject.now course way.now ways.old.items ways.new.items) }
+{
+    let alloc = course.alloc;
+    let packet = sample.packet;
+    subject.boxed.table.stands();
+    if let Some(scopes) = parts_without(alloc, subject, way, &packet)? {
+        add_parts(alloc, way, scopes, ways)?;
+        return Ok(Tried::Parted);
     }
-    Life::Unclear
+    let answers = way.scope.answers.copy(alloc)?;
+    match steer(alloc, subject, &packet, way, answers, course.budget)? {
+        Ending::Comes(answers) => {
+            if begins_elsewhere(subject, course.hook, way) {
+                add_longer(alloc, subject, course.hook, way, ways)?;
+                return Ok(Tried::Parted);
+            }
+            if is_shown(alloc, subject, &packet, &answers, way.wanted, course.budget)? {
+                answers.stand();
+                return Ok(Tried::Comes(sample.words, answers));
+            }
+        }
+        Ending::Strays(path) => {
+            if let Some(scopes) = led_away(alloc, subject, way, path.as_slice())? {
+                add_parts(alloc, way, scopes, ways)?;
+                return Ok(Tried::Parted);
+            }
+        }
+    }
+    walked(subject, course, way, sample, ways)
+}
+
+// What comes of a way.
+fn try_way(
+    subject: &Subject<'_>,
+    course: Course,
+    way: &Way,
+    ways: &mut Vec<Way>,
+) -> Result<Tried, AllocError>
+    requires { IsRule (table_of subject.now) way.now.wanted }
+    ensures { IfOk result (IsTried subject.now course way.now ways.old.items ways.new.items) }
+{
+    if way.scope.area.is_empty() {
+        return Ok(Tried::Parted);
+    }
+    match sample_of(course.alloc, course.hook, &way.scope.area)? {
+        None => Ok(Tried::Unknown),
+        Some(sample) => try_by(subject, course, way, sample, ways),
+    }
 }
 
 // What packets that are sought at a hook tell of a rule: one comes to it, or none does.
-pub(crate) fn seek(
-    alloc: Global,
-    subject: &Subject<'_>,
-    hook: Hook,
-    step: Step,
-    budget: usize,
-) -> Result<Life, AllocError>
+pub(crate) fn seek(subject: &Subject<'_>, course: Course, step: Step) -> Result<Life, AllocError>
     requires { IsRule (table_of subject.now) step }
-    ensures { IfOk result (SaysAt subject.now step hook) }
+    ensures says { IfOk result (SaysAt subject.now step course.hook) }
+    ensures vain { IfOk result (IsUnclearAt (IsSoughtInVain (whole_of subject.now) step course.hook course.budget)) }
 {
     subject.boxed.table.stands();
-    let Some(scope) = scope_at(alloc, subject, hook, step)? else {
+    let Some(scope) = scope_at(course.alloc, subject, course.hook, step)? else {
         return Ok(Life::Dead);
     };
-    let mut ways = first_ways(alloc, subject, step, scope)?;
+    let mut ways = Vec::new(course.alloc);
+    ways.push(Way::first(course.alloc, step, scope))?;
     let mut clear = true;
-    for _ in 0..TRIES.min(budget) {
+    for tried in 0..course.budget {
         let Some(way) = ways.pop() else {
-            return Ok(at_end(clear, ways.as_slice()));
+            if clear {
+                return Ok(Life::Dead);
+            }
+            return Ok(Life::Unclear);
         };
-        match try_way(alloc, subject, hook, &way, &mut ways, budget)? {
+        match try_way(subject, course, &way, &mut ways)? {
             Tried::Comes(words, answers) => return Ok(Life::Live(words, answers)),
             Tried::Parted => {}
             Tried::Unknown => clear = false,
         }
     }
-    Ok(at_end(clear, ways.as_slice()))
+    if clear && ways.is_empty() {
+        return Ok(Life::Dead);
+    }
+    Ok(Life::Unclear)
 }

@@ -1,10 +1,11 @@
 //! The packets of a scope that aren't led away by some rules, in parts.
-ghost use Rattle.std.specs.Prelude.{◌-◌, ◌<◌, IfOk, IfSome, IsTrue, OnOk, slice_get};
+ghost use Rattle.std.specs.Prelude.{◌≡◌, ◌-◌, ◌<◌, true, IfOk, IfSome, IsTrue, OnOk, slice_get};
+ghost use Rattle.rules.specs.rule.Allows.{matches};
 ghost use Rattle.questions.specs.Foreign.{all_hold, need_holds};
 ghost use Rattle.questions.specs.steps.Seeking.{AddsBoxes, AddsParts, AreScopesOf, EndsAt, IsLeftIn, IsSameScope, KeepsIn, LeadsAwayAt, NoneAheadTakesOut};
 
 use crate::boxes::area::Area;
-use crate::boxes::cut::{Cut, cut_by};
+use crate::boxes::cut::{Cut, cut_by, inside_of};
 use crate::foreign::answers::Answers;
 use crate::foreign::need::{Need, meeting};
 use crate::foreign::subject::Subject;
@@ -80,6 +81,21 @@ pub(crate) fn add_boxes(
     Ok(())
 }
 
+// Adds what a rule may match of a scope, whatever it needs beyond that: parts, where the ports are to be parted first.
+pub(crate) fn add_matching(
+    alloc: Global,
+    seen: &Seen<'_>,
+    scope: &Scope,
+    scopes: &mut Vec<Scope>,
+) -> Result<(), AllocError>
+    ensures { OnOk result (AddsParts scope.now (λ a p. matches p.values seen.now.rule.now ≡ true → ⊥) scopes.old.items scopes.new.items) }
+{
+    let cut = cut_by(alloc, seen.rule, seen.own.boxed(), &scope.area)?;
+    let areas = inside_of(alloc, cut)?;
+    add_boxes(alloc, areas, &scope.answers, scopes)?;
+    Ok(())
+}
+
 // Adds the packets of a scope that a rule doesn't match, or for which something fails that it needs; the others are what is left. A rule that asks both
 // ports leaves none, where the ports are to be parted first.
 fn split(
@@ -131,7 +147,7 @@ fn add_taken(
         return Ok(());
     }
     if let Some(taken) = met_with(alloc, &seen, scope)? {
-        scopes.push(taken)?;
+        add_matching(alloc, &seen, &taken, scopes)?;
     }
     Ok(())
 }

@@ -1,12 +1,14 @@
 //! Ways to a rule: the jumps and gotos by which packets come to its chain.
-ghost use Rattle.std.specs.Prelude.{◌≡◌, ◌≢◌, ◌<◌, true, length, IfOk, IfSome, IsTrue, MatchOption, OnOk};
+ghost use Rattle.std.specs.Prelude.{◌≡◌, ◌≢◌, ◌<◌, [], true, length, IfOk, IfSome, IsTrue, MatchOption, OnOk};
 ghost use Rattle.fields.specs.packet.Packet.{PacketView};
 ghost use Rattle.rules.specs.rule.Allows.{matches};
 ghost use Rattle.table.specs.steps.Kept.{hook_index};
 ghost use Rattle.questions.specs.Foreign.{Assignment, all_hold};
 ghost use Rattle.questions.specs.Scopes.{table_of};
 ghost use Rattle.questions.specs.boxes.Area.{IsAtHook};
-ghost use Rattle.questions.specs.steps.Seeking.{IsAheadOn, IsHere, TakesBy, TakesOver, TakesScopes, top_of};
+ghost use Rattle.questions.specs.boxes.Calls.{IsCall};
+ghost use Rattle.questions.specs.steps.Seeking.{IsAheadOn, IsForOne, IsHere, TakesBy, TakesOver, TakesScopes, top_of};
+ghost use Rattle.questions.specs.steps.Tries.{AddsWays, IsLonger, LiesIn};
 
 use crate::foreign::need::meeting;
 use crate::foreign::subject::Subject;
@@ -27,6 +29,20 @@ pub(crate) struct Way {
 }
 
 impl Way {
+    // The first one to a rule: from the rule itself.
+    pub(crate) fn first(alloc: Global, wanted: Step, scope: Scope) -> Way
+        ensures wanted { result.wanted ≡ wanted }
+        ensures scope { result.scope ≡ scope }
+        ensures places { result.places.items ≡ [] }
+    {
+        let places = Vec::new(alloc);
+        Way {
+            wanted,
+            scope,
+            places,
+        }
+    }
+
     // The chain in which it begins.
     pub(crate) fn chain(&self) -> usize
         ensures { result ≡ (top_of self.now.wanted self.now.places.items).chain }
@@ -83,8 +99,9 @@ pub(crate) fn met_with(
     seen: &Seen<'_>,
     scope: &Scope,
 ) -> Result<Option<Scope>, AllocError>
-    ensures { IfOk result (λ found. (a : Assignment) (p : PacketView) → IsAtHook p → IsHere a p scope.now
+    ensures all { IfOk result (λ found. (a : Assignment) (p : PacketView) → IsAtHook p → IsHere a p scope.now
         → matches p.values seen.now.rule.now ≡ true → IsTrue (all_hold a seen.now.needs.now) → MatchOption found ⊥ (IsHere a p)) }
+    ensures inside { IfOk result (λ found. IfSome found (LiesIn scope.now)) }
 {
     let Some(answers) = meeting(seen.needs, scope.answers.copy(alloc)?)? else {
         return Ok(None);
@@ -104,7 +121,9 @@ fn add_by(
     by: Step,
     ways: &mut Vec<Way>,
 ) -> Result<(), AllocError>
-    ensures { OnOk result (TakesBy subject.now way.now by ways.old.items ways.new.items) }
+    ensures takes { OnOk result (TakesBy subject.now way.now by ways.old.items ways.new.items) }
+    ensures longer { IsCall (table_of subject.now) (record { to = (top_of way.now.wanted way.now.places.items).chain; by = by })
+        → OnOk result (AddsWays (IsLonger (table_of subject.now) way.now) ways.old.items ways.new.items) }
 {
     subject.boxed.table.stands();
     let Some(seen) = Seen::at(*subject, by) else {
@@ -129,7 +148,8 @@ pub(crate) fn add_longer(
 ) -> Result<(), AllocError>
     requires there { (top_of way.now.wanted way.now.places.items).chain < length (table_of subject.now).chains }
     requires other { (top_of way.now.wanted way.now.places.items).chain ≢ hook_index hook }
-    ensures { OnOk result (TakesOver subject.now hook way.now ways.old.items ways.new.items) }
+    ensures takes { OnOk result (TakesOver subject.now hook way.now ways.old.items ways.new.items) }
+    ensures longer { OnOk result (AddsWays (IsLonger (table_of subject.now) way.now) ways.old.items ways.new.items) }
 {
     subject.boxed.table.stands();
     let chain = way.chain();
@@ -150,7 +170,8 @@ pub(crate) fn add_parts(
     mut scopes: Vec<Scope>,
     ways: &mut Vec<Way>,
 ) -> Result<(), AllocError>
-    ensures { OnOk result (TakesScopes way.now scopes.items ways.old.items ways.new.items) }
+    ensures takes { OnOk result (TakesScopes way.now scopes.items ways.old.items ways.new.items) }
+    ensures each { OnOk result (AddsWays (IsForOne way.now scopes.items) ways.old.items ways.new.items) }
 {
     while let Some(scope) = scopes.pop() {
         ways.push(way.with(alloc, scope)?)?;

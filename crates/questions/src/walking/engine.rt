@@ -119,9 +119,10 @@ pub(crate) fn begin(
 /// the whole budget was used up with a box left, or a trail was full, with 65,536 rules, before.
 ///
 /// A step of the budget is one rule tested on one box, or one chain at its end; rules that share no packet with the box are
-/// passed without a step. It makes at most two parts more than there are fields, which have packets and share none. Those that share none with the first box are set aside after many looks, with one at each rule and eight
-/// bytes for it. A step takes the memory of a copy of the box, of the rests that wait and of the trail for each field on which the
-/// rule leaves numbers out.
+/// passed without a step. It makes at most two parts more than there are fields, each with some of the box's numbers, of which no
+/// two share any. Rules that share no packet with the first box are set aside after many looks, with one at each rule and eight bytes
+/// for it. A step takes the memory of a copy of the box, of the rests that wait and of the trail for each field on which the rule
+/// leaves numbers out.
 ///
 /// # Errors
 ///

@@ -1,6 +1,4 @@
-use Rattle.std.proofs.lemmas.Result.{IfOk-weaker}
 use Rattle.questions.specs.Scopes.{table_of, whole_of}
-use Rattle.questions.specs.asked.Changes.{AreChangesUnder}
 use Rattle.questions.specs.declared.asked.changes.Changes.{Changes}
 use Rattle.questions.specs.declared.asked.pairs.Side.TheVariants as side
 use Rattle.questions.specs.steps.Shared.{unshared}

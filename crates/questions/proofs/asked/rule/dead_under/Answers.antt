@@ -1,14 +1,18 @@
-use Rattle.std.proofs.Common.{◌⊎◌, get_or, refl, arith, sym, ◌∙◌, inl, inr, subst, Contains}
+use Rattle.std.proofs.Common.{◌≡◌, ◌⊎◌, false, get_or, refl, arith, sym, ◌∙◌, inl, inr, subst, Contains}
+use Rattle.std.specs.Prelude.{slice_index_or}
 use Rattle.std.proofs.lemmas.Bool.{true≢false}
 use Rattle.fields.specs.declared.packet.hook.Hook.{Hook}
 use Rattle.fields.specs.declared.packet.hook.Hook.TheVariants.{Input}
 use Rattle.fields.specs.packet.Hook.{all_hooks}
+use Rattle.table.specs.chains.Table.{chain_at}
 use Rattle.table.specs.declared.walk.trail.Step.{Step}
+use Rattle.table.specs.steps.Kept.{hook_index}
 use Rattle.table.specs.walk.Walk.{Entry, walk}
 use Rattle.questions.specs.Scopes.{answered, table_of}
 use Rattle.questions.specs.asked.Always.{IsAlwaysDeadAt, MayLive}
 use Rattle.questions.specs.asked.Reason.{IsLed}
-use Rattle.questions.proofs.laws.HookLaws.{other_unled}
+use Rattle.questions.specs.steps.Leading.{AreLeading}
+use Rattle.questions.proofs.laws.LeadLaws.{hook_led}
 use Rattle.questions.proofs.laws.ResolvedLaws.{entry_left}
 use Rattle.questions.proofs.laws.ShortLaws.{AreShortAt, never_too_long}
 use Rattle.questions.proofs.laws.TakerLaws.{unled_dead}
@@ -23,7 +27,7 @@ loop-hook-preserved c =
     let Dead : Hook → Type 0 = λ h. IsAlwaysDeadAt s step h in
     let Short : Hook → Type 0 = λ h. AreShortAt s step h in
     let Each : Hook → Type 0 = λ h. Dead h ⊎ MayLive s step c.args.budget h in
-    elim c.match-branch-2.branch [
+    elim c.match-branch-3.branch [
       | in-Dead w ↦ (
           let here : Dead (get_or all_hooks c.loop-hook.hook-index Input) = rw w.in-Dead.is at c.in_ok-life_at.ensures.says in
           let short : Short (get_or all_hooks c.loop-hook.hook-index Input) = λ led. (rw w.in-Dead.is at c.in_ok-life_at.ensures.short) refl in
@@ -43,14 +47,19 @@ loop-hook-preserved c =
           })
     ]
 
--- a hook whose packets can't come to the chain of another one
-pub loop-hook-preserved-then-is_of_other : goal.loop-hook-preserved-then-is_of_other
-loop-hook-preserved-then-is_of_other c =
+-- a hook from whose chain no jumps and gotos lead to the rule's
+pub loop-hook-preserved-then-not-is_led : goal.loop-hook-preserved-then-not-is_led
+loop-hook-preserved-then-not-is_led c =
     let s = c.args.subject.now in
+    let t = table_of s in
     let step : Step = record { chain = c.args.place; number = c.args.number } in
     let Dead : Hook → Type 0 = λ h. IsAlwaysDeadAt s step h in
     let hook : Hook = get_or all_hooks c.loop-hook.hook-index Input in
-    let unled : IsLed (table_of s) step hook → ⊥ = other_unled (table_of s) step hook c.stands.ensures.sound (c.is_of_other.ensures.first c.if-is_of_other.true) (c.is_of_other.ensures.other c.if-is_of_other.true) in
+    let name = (chain_at t c.args.place).name in
+    let marks = c.in_ok-marks.marks.items in
+    let leading : AreLeading t name marks = c.in_ok-marks.ensures in
+    let off : slice_index_or marks (hook_index hook) false ≡ false = rw c.as_slice.ensures.value at (sym c.is_led.ensures ∙ c.if-not-is_led.true) in
+    let unled : IsLed t step hook → ⊥ = λ led. true≢false (sym (hook_led t name marks hook c.stands.ensures.sound leading led) ∙ off) in
     let here : Dead hook = unled_dead s step hook unled in
     let short : AreShortAt s step hook = λ led. absurd (unled led) in
     record {

@@ -1,8 +1,16 @@
-use Rattle.std.proofs.Common.{arith}
-use Rattle.questions.proofs.laws.AreaLaws.{at_place, from_places}
+use Rattle.std.proofs.Common.{sym, ◌∙◌, arith}
+use Rattle.classify.proofs.laws.classifier.ClassifierLaws.{field_at}
+use Rattle.questions.proofs.laws.AreaLaws.{at_place, from_places, set_at}
 use Rattle.questions.proofs.boxes.lying.lies_in.Goals as goal
 
-pub returns : goal.returns
-returns c = λ _ numbers own. record {
+pub returns-clause-all : goal.returns-clause-all
+returns-clause-all c = λ _ numbers own. record {
   each = from_places c.args.other.now numbers (λ k lt. c.loop-place.invariant k (omega (arith, lt, c.loop-place-test.false)) numbers (at_place c.args.own.now numbers k lt own.each));
 }
+
+pub returns-then-not-is_part-clause-some : goal.returns-then-not-is_part-clause-some
+returns-then-not-is_part-clause-some c = λ _.
+    let k = c.loop-place.place in
+    let (f, at) = field_at k (omega (arith, c.loop-place-test.true)) in
+    let (x, le, on, off) = c.is_part.ensures.some c.if-not-is_part.true in
+    (f, x, sym (set_at c.args.own.now k f c.index-own-place.result x c.requires.own (sym at) c.index-own-place.is) ∙ on, sym (set_at c.args.other.now k f c.index-other-place.result x c.requires.other (sym at) c.index-other-place.is) ∙ off)

@@ -4,7 +4,7 @@ use Rattle.std.proofs.lemmas.List.Elements.{All-push}
 use Rattle.questions.specs.declared.foreign.need.Need.{Need}
 use Rattle.questions.specs.steps.Remaining.{AreAlike, AreAlikeInChain, AreFree}
 use Rattle.questions.proofs.laws.RemainLaws.{one_more}
-use Rattle.questions.proofs.laws.WitnessLaws.{take_next}
+use Rattle.questions.proofs.laws.FirstLaws.{take_next}
 use Rattle.questions.proofs.foreign.left.left_in.Goals as goal
 
 pub returns-clause-alike : goal.returns-clause-alike

@@ -5,7 +5,7 @@ use Rattle.questions.specs.Foreign.{resolved}
 use Rattle.questions.specs.declared.foreign.need.Need.{Need}
 use Rattle.questions.specs.steps.Remaining.{AreAlikeInAll, AreAlikeInChain, AreFreeInChain}
 use Rattle.questions.proofs.laws.RemainLaws.{left_alike, left_free, one_more}
-use Rattle.questions.proofs.laws.WitnessLaws.{take_next}
+use Rattle.questions.proofs.laws.FirstLaws.{take_next}
 use Rattle.questions.proofs.foreign.left.needs_left.Goals as goal
 
 pub returns-clause-same : goal.returns-clause-same

@@ -1,64 +1,113 @@
-use Rattle.std.proofs.Common.{◌∙◌, List, sym, subst}
+use Rattle.std.proofs.Common.{◌≡◌, inl, inr, ◌+◌, List, [], ◌∷◌, length, arith, sym, subst}
 use Rattle.std.proofs.lemmas.Bool.{true≢false}
-use Rattle.std.proofs.lemmas.List.{append-nil}
+use Rattle.std.proofs.lemmas.List.Elements.{All-nil, All-push}
 use Rattle.table.specs.declared.walk.trail.Step.{Step}
 use Rattle.questions.specs.Ends.{IsRule}
 use Rattle.questions.specs.Scopes.{table_of}
 use Rattle.questions.specs.asked.Always.{SaysAt}
 use Rattle.questions.specs.declared.asked.rule.Life.TheVariants.{Live}
 use Rattle.questions.specs.declared.seeking.way.Way.{Way}
-use Rattle.questions.specs.steps.Seeking.{AllWant, AreAllWays}
-use Rattle.questions.proofs.laws.SeekLaws.{last_wanted, never_meets, next_ways}
+use Rattle.questions.specs.declared.walking.scope.Scope.{Scope}
+use Rattle.questions.specs.steps.Meant.{IsScopeAt}
+use Rattle.questions.specs.steps.Seeking.{AllWant}
+use Rattle.questions.specs.steps.Tries.{AreTries, TakesPlace}
+use Rattle.questions.proofs.laws.SeekLaws.{first_way, last_wanted, never_meets, next_ways, none_comes}
+use Rattle.questions.proofs.laws.TryLaws.{adds_none, tries_next}
 use Rattle.questions.proofs.seeking.seek.seek.Goals as goal
-use Rattle.questions.proofs.seeking.seek.seek.Goals.{in-Parted, in-Unknown}
+use Rattle.questions.proofs.seeking.seek.seek.Goals.{else-clear-2-via-else-clear-2, else-clear-2-via-then-clear-2+else-is_empty, in-Parted, in-Unknown}
 
-pub loop-init : goal.loop-init
-loop-init c = record {
-  wanted = c.in_ok-ways.ensures.wanted;
-  all = λ clear. c.in_ok-ways.ensures.all c.args.hook (rw c.in-Some.is at c.in_ok-scope.ensures);
-}
-
-pub loop-preserved : goal.loop-preserved
-loop-preserved c =
+pub loop-tried-init : goal.loop-tried-init
+loop-tried-init c =
     let s = c.args.subject.now in
     let step = c.args.step in
+    let hook = c.args.course.hook in
+    let way : Way = c.first.result in
+    let ways = c.push.new.self.items in
+    let At : Scope → Type 0 = λ x. IsScopeAt (table_of s) s.needs.now step hook x in
+    let Wants : Way → Type 0 = λ w. w.wanted ≡ step in
+    let own : At way.scope = subst At (sym c.first.ensures.scope) (rw c.in-Some.is at c.in_ok-scope.ensures) in
+    let one : ways ≡ way ∷ [] = rw c.new-ways.ensures.items at c.in_ok-push.ensures.items in
+    record {
+      wanted = subst (λ (l : List Way). AllWant step l) (sym one) (All-push Wants [] way (All-nil Wants) c.first.ensures.wanted);
+      all = λ clear. first_way s step hook way ways c.stands.ensures.sound c.requires c.first.ensures.wanted own c.first.ensures.places one;
+      tries = (way, record { wanted = c.first.ensures.wanted; own = own; places = c.first.ensures.places }, sym one);
+      vain = λ off. absurd (true≢false off);
+    }
+
+pub loop-tried-preserved : goal.loop-tried-preserved
+loop-tried-preserved c =
+    let s = c.args.subject.now in
+    let t = table_of s in
+    let step = c.args.step in
+    let hook = c.args.course.hook in
     let way = c.in-Some-pop.way in
-    let last = last_wanted step c.loop.ways.items c.pop.new.self.items way c.in-Some-pop.ensures.items c.loop.invariant.wanted in
+    let old = c.loop-tried.ways.items in
+    let left = c.pop.new.self.items in
+    let new = c.try_way.new.ways.items in
+    let last = last_wanted step old left way c.in-Some-pop.ensures.items c.loop-tried.invariant.wanted in
+    let (first, begins, tries) = c.loop-tried.invariant.tries in
     elim c.match-branch-5.branch [
       | in-Parted w ↦ (
-          let tried = rw w.in-Parted.is at c.in_ok-words.ensures in
+          let (takes, goes) = rw w.in-Parted.is at c.in_ok-words.ensures in
           rw w.clear-is (record {
-            wanted = tried.wanted step last.1 last.0;
-            all = λ clear. next_ways s step c.args.hook way c.loop.ways.items c.pop.new.self.items c.try_way.new.ways.items c.in-Some-pop.ensures.items tried (c.loop.invariant.all clear);
+            wanted = takes.wanted step last.1 last.0;
+            all = λ clear. next_ways s step hook way old left new c.in-Some-pop.ensures.items last.1 takes (c.loop-tried.invariant.all clear);
+            tries = (first, begins, tries_next c.loop-tried.tried t (first ∷ []) old new tries (left, way, c.in-Some-pop.ensures.items, goes));
+            vain = c.loop-tried.invariant.vain;
           }))
       | in-Unknown w ↦ (
-          let same = rw w.in-Unknown.is at c.in_ok-words.ensures in
+          let (same, untold) = rw w.in-Unknown.is at c.in_ok-words.ensures in
           let P : List Way → Type 0 = λ ways. AllWant step ways in
-          rw w.clear-is (record { wanted = subst P (sym same) last.0; all = λ clear. absurd (true≢false (sym clear)) }))
+          let Q : List Way → Type 0 = λ ways. AreTries (c.loop-tried.tried + 1) t (first ∷ []) ways in
+          rw w.clear-is (record {
+            wanted = subst P (sym same) last.0;
+            all = λ clear. absurd (true≢false (sym clear));
+            tries = (first, begins, subst Q (sym same) (tries_next c.loop-tried.tried t (first ∷ []) old left tries (left, way, c.in-Some-pop.ensures.items, adds_none (TakesPlace t way) left)));
+            vain = λ off. record { first = first; ways = old; begins = begins; n = c.loop-tried.tried; tries = tries; vain = inr (omega (arith, c.loop-tried-test.true), (left, way, c.in-Some-pop.ensures.items, untold)) };
+          }))
     ]
 
-pub returns-in_default : goal.returns-in_default
-returns-in_default c = never_meets c.args.subject.now c.args.step c.args.hook c.stands.ensures.sound c.requires (rw c.in_default.is at c.in_ok-scope.ensures)
-
-pub returns-in_default-pop : goal.returns-in_default-pop
-returns-in_default-pop c = c.at_end.ensures c.args.subject.now c.args.step c.args.hook (λ clear.
-    let P : List Way → Type 0 = λ ways. AreAllWays c.args.subject.now c.args.step c.args.hook ways in
-    rw c.as_slice.ensures.value (subst P (c.in_default-pop.ensures.items ∙ append-nil c.pop.new.self.items) (c.loop.invariant.all clear)))
+pub returns-in_default-clause-says : goal.returns-in_default-clause-says
+returns-in_default-clause-says c = never_meets c.args.subject.now c.args.step c.args.course.hook c.stands.ensures.sound c.requires (rw c.in_default.is at c.in_ok-scope.ensures)
 
 pub try_way-requires : goal.try_way-requires
 try_way-requires c =
     let step = c.args.step in
-    let last = last_wanted step c.loop.ways.items c.pop.new.self.items c.in-Some-pop.way c.in-Some-pop.ensures.items c.loop.invariant.wanted in
+    let last = last_wanted step c.loop-tried.ways.items c.pop.new.self.items c.in-Some-pop.way c.in-Some-pop.ensures.items c.loop-tried.invariant.wanted in
     let P : Step → Type 0 = λ w. IsRule (table_of c.args.subject.now) w in
     subst P (sym last.1) c.requires
 
-pub returns-in-Comes : goal.returns-in-Comes
-returns-in-Comes c =
+pub returns-in-Comes-clause-says : goal.returns-in-Comes-clause-says
+returns-in-Comes-clause-says c =
     let step = c.args.step in
-    let last = last_wanted step c.loop.ways.items c.pop.new.self.items c.in-Some-pop.way c.in-Some-pop.ensures.items c.loop.invariant.wanted in
+    let last = last_wanted step c.loop-tried.ways.items c.pop.new.self.items c.in-Some-pop.way c.in-Some-pop.ensures.items c.loop-tried.invariant.wanted in
     let tried = rw c.in-Comes.is at c.in_ok-words.ensures in
-    let P : Step → Type 0 = λ w. SaysAt c.args.subject.now w c.args.hook (Live c.in-Comes.words c.in-Comes.answers) in
+    let P : Step → Type 0 = λ w. SaysAt c.args.subject.now w c.args.course.hook (Live c.in-Comes.words c.in-Comes.answers) in
     subst P last.1 tried
 
-pub returns : goal.returns
-returns c = c.at_end-2.ensures c.args.subject.now c.args.step c.args.hook (λ clear. rw c.as_slice-2.ensures.value (c.loop.invariant.all clear))
+-- no way is left
+pub returns-then-clear-clause-says : goal.returns-then-clear-clause-says
+returns-then-clear-clause-says c =
+    let none : length c.loop-tried.ways.items ≡ 0 = omega (arith, c.in_default-pop.ensures.cases.0, c.loop-tried.ways.ok.0) in
+    none_comes c.args.subject.now c.args.step c.args.course.hook c.loop-tried.ways.items none (c.loop-tried.invariant.all c.if-clear.true)
+
+pub returns-then-is_empty-clause-says : goal.returns-then-is_empty-clause-says
+returns-then-is_empty-clause-says c =
+    let none : length c.loop-tried.ways.items ≡ 0 = grind (arith, c.is_empty.ensures, c.if-is_empty.true, c.loop-tried.ways.ok.0) in
+    none_comes c.args.subject.now c.args.step c.args.course.hook c.loop-tried.ways.items none (c.loop-tried.invariant.all c.if-clear-2.true)
+
+-- some way is left, or one can't be told
+pub returns-clause-vain : goal.returns-clause-vain
+returns-clause-vain c =
+    let (first, begins, tries) = c.loop-tried.invariant.tries in
+    elim c.else-clear-2.branch [
+      | else-clear-2-via-then-clear-2+else-is_empty w ↦ record {
+        first = first;
+        ways = c.loop-tried.ways.items;
+        begins = begins;
+        n = c.loop-tried.tried;
+        tries = tries;
+        vain = inl (omega (arith, c.loop-tried-test.false, c.loop-tried.auto.tried-end), grind (arith, w.is_empty.ensures, w.if-is_empty.false, c.loop-tried.ways.ok.0));
+      }
+      | else-clear-2-via-else-clear-2 w ↦ c.loop-tried.invariant.vain w.if-clear-2.false
+    ]

@@ -1,23 +1,44 @@
 use Rattle.std.proofs.Common.{[], ◌∷◌, ◌++◌, List, ◌∙◌, ap}
 use Rattle.table.specs.declared.walk.trail.Step.{Step}
 use Rattle.questions.specs.declared.seeking.way.Way.{Way}
+use Rattle.questions.specs.Scopes.{table_of}
+use Rattle.questions.specs.steps.Tries.{IsLonger, LiesIn}
 use Rattle.questions.proofs.laws.SeekLaws.{taken_by, taken_never}
+use Rattle.questions.proofs.laws.TryLaws.{adds_none, adds_one}
 use Rattle.questions.proofs.seeking.way.add_by.Goals as goal
 
-pub returns-in_default : goal.returns-in_default
-returns-in_default c = taken_never c.args.subject.now c.stands.ensures.sound c.args.way.now c.args.by c.args.ways.now.items (λ a p at is here m. c.in_default.ensures is)
+pub returns-in_default-clause-takes : goal.returns-in_default-clause-takes
+returns-in_default-clause-takes c = taken_never c.args.subject.now c.stands.ensures.sound c.args.way.now c.args.by c.args.ways.now.items (λ a p at is here m. c.in_default.ensures is)
 
-pub returns-in_default-2 : goal.returns-in_default-2
-returns-in_default-2 c =
+pub returns-in_default-2-clause-takes : goal.returns-in_default-2-clause-takes
+returns-in_default-2-clause-takes c =
     let seen = c.in-Some.ensures in
-    let none = rw c.in_default-2.is at c.in_ok-scope.ensures in
+    let none = rw c.in_default-2.is at c.in_ok-scope.ensures.all in
     taken_never c.args.subject.now c.stands.ensures.sound c.args.way.now c.args.by c.args.ways.now.items (λ a p at is here m. none a p at here (rw seen.rule m.0) (rw seen.needs m.1))
 
-pub returns : goal.returns
-returns c =
+pub returns-clause-takes : goal.returns-clause-takes
+returns-clause-takes c =
     let seen = c.in-Some.ensures in
-    let some = rw c.in-Some-2.is at c.in_ok-scope.ensures in
+    let some = rw c.in-Some-2.is at c.in_ok-scope.ensures.all in
     let more : Way = record { wanted = c.in_ok-more.more.wanted; scope = c.in_ok-more.more.scope; places = c.push.new.self } in
     taken_by c.args.subject.now c.stands.ensures.sound c.args.way.now more c.args.by c.args.ways.now.items c.push-2.new.self.items c.in_ok-more.ensures.wanted
     (c.in_ok-push.ensures.items ∙ ap (λ (places : List Step). places ++ c.args.by ∷ []) c.in_ok-more.ensures.places) c.in_ok-push-2.ensures.items
     (λ a p at own m. rw c.in_ok-more.ensures.scope (some a p at own (rw seen.rule m.0) (rw seen.needs m.1)))
+
+pub returns-in_default-clause-longer : goal.returns-in_default-clause-longer
+returns-in_default-clause-longer c = λ call. adds_none (IsLonger (table_of c.args.subject.now) c.args.way.now) c.args.ways.now.items
+
+pub returns-in_default-2-clause-longer : goal.returns-in_default-2-clause-longer
+returns-in_default-2-clause-longer c = λ call. adds_none (IsLonger (table_of c.args.subject.now) c.args.way.now) c.args.ways.now.items
+
+pub returns-clause-longer : goal.returns-clause-longer
+returns-clause-longer c = λ call.
+    let more : Way = record { wanted = c.in_ok-more.more.wanted; scope = c.in_ok-more.more.scope; places = c.push.new.self } in
+    let inside : LiesIn c.args.way.now.scope c.in-Some-2.scope = rw c.in-Some-2.is at c.in_ok-scope.ensures.inside in
+    adds_one (IsLonger (table_of c.args.subject.now) c.args.way.now) c.args.ways.now.items c.push-2.new.self.items more c.in_ok-push-2.ensures.items (record {
+      wanted = c.in_ok-more.ensures.wanted;
+      by = c.args.by;
+      enters = call;
+      places = c.in_ok-push.ensures.items ∙ ap (λ (places : List Step). places ++ c.args.by ∷ []) c.in_ok-more.ensures.places;
+      inside = rw c.in_ok-more.ensures.scope inside;
+    })

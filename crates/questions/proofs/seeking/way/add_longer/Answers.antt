@@ -1,8 +1,12 @@
 use Rattle.std.proofs.Common.{◌-◌, ◌≡◌, ◌<◌, ◌∙◌, length, get_or, ℕ, ap, subst, sym, arith}
 use Rattle.std.proofs.lemmas.List.{get_or_default}
 use Rattle.questions.specs.declared.seeking.calls.Call.{Call}
-use Rattle.questions.specs.steps.Seeking.{IsTakenBy}
+use Rattle.questions.specs.Scopes.{table_of}
+use Rattle.questions.specs.boxes.Calls.{IsCall}
+use Rattle.questions.specs.steps.Seeking.{IsTakenBy, top_of}
+use Rattle.questions.specs.steps.Tries.{IsLonger}
 use Rattle.questions.proofs.laws.SeekLaws.{AreTakenFrom, taken_next, taken_over}
+use Rattle.questions.proofs.laws.TryLaws.{adds_none, adds_on}
 use Rattle.questions.proofs.seeking.way.add_longer.Goals as goal
 use Rattle.questions.proofs.seeking.way.add_longer.Goals.{then-to-chain+in_ok-add_by, else-to-chain}
 
@@ -18,27 +22,33 @@ loop-before-preserved c =
     let none : Call = record { to = 0; by = record { chain = 0; number = 0 } } in
     let lt : place < length calls = omega (arith, c.loop-before-test.true) in
     let same : (d : Call) → get_or calls place d ≡ get_or calls place none = λ d. get_or_default calls place d none lt in
+    let here : Call = get_or calls place none in
+    let is : IsCall (table_of s) here = c.calls-calls.ensures.only place none lt in
+    let To : ℕ → Type 0 = λ to. IsCall (table_of s) (record { to = to; by = here.by }) in
+    let call : here.to ≡ chain → To (top_of way.wanted way.places.items).chain = λ to. subst To (to ∙ c.chain-chain.ensures) is in
     elim c.if-to-chain.branch [
       | then-to-chain+in_ok-add_by w ↦ (
           let new = w.add_by.new.ways.items in
           let P : Call → Type 0 = λ call. IsTakenBy s way call.by new in
           rw w.ways-is (record {
-            kept = λ a p h. w.in_ok-add_by.ensures.kept a p (c.loop-before.invariant.kept a p h);
-            wanted = λ step is all. w.in_ok-add_by.ensures.wanted step is (c.loop-before.invariant.wanted step is all);
-            taken = taken_next s c.stands.ensures.sound way chain calls before old new c.loop-before-test.true w.in_ok-add_by.ensures.kept (λ d to. subst P (sym (same d)) w.in_ok-add_by.ensures.taken) c.loop-before.invariant.taken;
+            kept = λ a p h. w.in_ok-add_by.ensures.takes.kept a p (c.loop-before.invariant.kept a p h);
+            wanted = λ step is all. w.in_ok-add_by.ensures.takes.wanted step is (c.loop-before.invariant.wanted step is all);
+            longer = adds_on (IsLonger (table_of s) way) c.args.ways.now.items old new c.loop-before.invariant.longer (w.in_ok-add_by.ensures.longer (call w.if-to-chain.true));
+            taken = taken_next s c.stands.ensures.sound way chain calls before old new c.loop-before-test.true w.in_ok-add_by.ensures.takes.kept (λ d to. subst P (sym (same d)) w.in_ok-add_by.ensures.takes.taken) c.loop-before.invariant.taken;
           }))
       | else-to-chain w ↦ rw w.ways-is (record {
         kept = c.loop-before.invariant.kept;
         wanted = c.loop-before.invariant.wanted;
+        longer = c.loop-before.invariant.longer;
         taken = taken_next s c.stands.ensures.sound way chain calls before old old c.loop-before-test.true (λ a p h. h) (λ d to. absurd (w.if-to-chain.false (ap (λ (call : Call). call.to) (sym (same d)) ∙ to))) c.loop-before.invariant.taken;
       })
     ]
 
 pub loop-before-init : goal.loop-before-init
-loop-before-init c = record { kept = λ a p h. h; wanted = λ step is all. all; taken = λ k d lt le to. absurd (omega (arith, lt, le)) }
+loop-before-init c = record { kept = λ a p h. h; wanted = λ step is all. all; longer = adds_none (IsLonger (table_of c.args.subject.now) c.args.way.now) c.args.ways.now.items; taken = λ k d lt le to. absurd (omega (arith, lt, le)) }
 
-pub returns : goal.returns
-returns c =
+pub returns-clause-takes : goal.returns-clause-takes
+returns-clause-takes c =
     let s = c.args.subject.now in
     let way = c.args.way.now in
     let calls = c.calls-calls.result.now in

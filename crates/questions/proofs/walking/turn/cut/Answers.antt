@@ -11,7 +11,7 @@ use Rattle.questions.specs.steps.Branches.{CanFollow}
 use Rattle.questions.specs.steps.Waiting.{rests_of}
 use Rattle.questions.proofs.laws.BoxesLaws.{own_box}
 use Rattle.questions.proofs.laws.BranchLaws.{apart_on, followed_on, met_or_stays, parted_on, split_on}
-use Rattle.questions.proofs.laws.LookLaws.{rule_here}
+use Rattle.questions.proofs.laws.AheadLaws.{rule_here}
 use Rattle.questions.proofs.laws.ResolvedLaws.{all_left, names_same, there_left}
 use Rattle.questions.specs.declared.walking.task.Pending.{Pending}
 use Rattle.questions.specs.declared.walking.task.Task.{Task}

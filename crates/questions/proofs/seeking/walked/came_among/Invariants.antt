@@ -1,0 +1,7 @@
+use Rattle.std.proofs.Common.{ℕ, ◌<◌, get_or}
+use Rattle.questions.specs.declared.walking.task.Leaf.{Leaf}
+use Rattle.questions.specs.steps.Walked.{IsGone}
+use Rattle.questions.proofs.seeking.walked.came_among.Given as goal
+
+abbrev pub invariant-loop-leaf : goal.invariant-loop-leaf
+invariant-loop-leaf l = (k : ℕ) (d : Leaf) → k < l.leaf-index → IsGone l.needs l.wanted l.packet (get_or l.found k d)
