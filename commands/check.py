@@ -37,14 +37,14 @@ import argparse
 import os
 import sys
 
-from commands import json_report
-from commands import sessions
+from commands import json_report, sessions
 from commands.advice import advice
 from commands.dump import examine, findings
 from commands.families import of_ipv6
 from commands.findings import shown, text_of
 from commands.places import called, command
 from commands.program import Unreadable, complain, finish, lines_of, read
+from commands.walk_documents import write_document
 
 
 class Text:
@@ -83,7 +83,7 @@ class Json:
         self.files.append(json_report.file(name, error=str(trouble)))
 
     def end(self):
-        sys.stdout.write(json_report.document(self.files))
+        write_document(json_report.document(self.files))
 
 
 def check(name, report):

@@ -29,6 +29,7 @@ import re
 import sys
 
 from commands.junit import Suite, said
+from commands.meant import VALUES
 from commands.places import called
 from commands.program import Trouble, complain, finish, lines_of, read
 from commands.walk_documents import error_objects, rule_object, text, verdict_object, walk_object, write_document
@@ -37,8 +38,6 @@ from commands.walks import TOO_LONG, Answers, Complaint, Unfit, Verdict, complai
 ARROW = re.compile(rb"(.*?)[ \t]+->(?:[ \t]+(.*))?")
 GLUED = re.compile(rb"[ \t]->")
 VERDICT = re.compile(rb"(ACCEPT|DROP|TOOLONG|REJECT(?: (\S+))?)(?: by (rule|policy|(\S+) ([1-9][0-9]*)))?")
-REJECT_TYPES = (b"icmp-net-unreachable", b"icmp-host-unreachable", b"icmp-port-unreachable", b"icmp-proto-unreachable",
-                b"icmp-net-prohibited", b"icmp-host-prohibited", b"icmp-admin-prohibited", b"tcp-reset")
 NOT_DUE = b"no verdict is expected"
 RESULTS = {True: "passed", False: "failed", None: "shown"}
 
@@ -54,7 +53,7 @@ def due_of(given):
     if not found:
         return "the expected verdict can't be read: write ACCEPT, DROP by policy or DROP by CHAIN NUMBER"
     verdict, kind, by, chain, number = found.groups()
-    if kind and kind not in REJECT_TYPES:
+    if kind and kind not in VALUES[b"--reject-with"]:
         return f"{os.fsdecode(kind)} is no type of REJECT"
     if by and verdict == b"TOOLONG":
         return "TOOLONG has no rule and no policy"

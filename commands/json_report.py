@@ -1,14 +1,7 @@
 """What bin/check --json writes: one document for all files, as docs/schemas/check.json says."""
 
-import json
-import os
-
 from commands.findings import visible
-
-
-def text(data):
-    """Bytes as the text that they are in UTF-8; other bytes as \\\\x and two digits."""
-    return data.decode("utf-8", "backslashreplace")
+from commands.walk_documents import text
 
 
 def fault(finding):
@@ -20,7 +13,7 @@ def fault(finding):
 
 def file(name, findings=(), advice=(), passed=(), error=None):
     """One file: its faults, what to do about the commonest, the lines that are passed over, or why it can't be read."""
-    return {"file": text(os.fsencode(name)), "loads": not findings and error is None, "error": error,
+    return {"file": text(name), "loads": not findings and error is None, "error": error,
             "faults": [fault(each) for each in findings],
             "advice": [{"words": [text(word) for word in words], "text": text(sentence)} for words, sentence in advice],
             "passed_over": list(passed)}
@@ -28,4 +21,4 @@ def file(name, findings=(), advice=(), passed=(), error=None):
 
 def document(files):
     counts = {"files": len(files), "loading": sum(each["loads"] for each in files), "faults": sum(len(each["faults"]) for each in files)}
-    return json.dumps({"files": files, "counts": counts}, indent=2) + "\n"
+    return {"files": files, "counts": counts}

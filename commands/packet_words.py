@@ -1,10 +1,10 @@
 """The words at fault in a packet line that the program refuses."""
 
+from commands.extensions import PROTOCOLS
 from commands.meant import HOOKS, PACKET_KEYS, meant, nearest
 from commands.program import Session, words_of
 from commands.spelling import OWN_PROTOCOLS
 
-WITH_PORTS = (6, 17, 33, 132, 136)
 OF_FIRST_FRAGMENTS = (b"sport", b"dport", b"flags", b"icmp")
 
 
@@ -14,7 +14,7 @@ def parts_of(given):
     protocol = int(name) if name.isdigit() else OWN_PROTOCOLS.get(name)
     if given.get(b"frag") == b"1":
         return (), ()
-    if protocol in WITH_PORTS:
+    if protocol in PROTOCOLS:
         return (b"sport", b"dport") + (b"flags",) * (protocol == 6), (b"sport", b"dport")
     return ((b"icmp",), (b"icmp",)) if protocol == 1 else ((), ())
 

@@ -1,4 +1,4 @@
-"""What bin/expect and bin/explain write as JSON: documents of which docs/schemas/ has the schemas.
+"""What bin/expect and bin/explain write as JSON, and bin/check by json_report: documents of which docs/schemas/ has the schemas.
 
 JSON has texts alone, so a byte that is no part of UTF-8 is written as \\xNN.
 """

@@ -4,7 +4,9 @@ ghost use Rattle.fields.specs.numbers.Field.{top};
 ghost use Rattle.questions.specs.Scopes.{table_of};
 ghost use Rattle.table.specs.chains.Table.{chain_at};
 
-use crate::progress::Progress;
+pub(crate) mod progress;
+
+use crate::asking::progress::Progress;
 use fields::{Field, Hook};
 use questions::{
     Answers, BoxedTable, Changes, Given, Leaf, Life, Likeness, Reached, Reason, Subject,

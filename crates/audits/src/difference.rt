@@ -1,13 +1,16 @@
-//! Whether two dumps give each packet the same verdict, and how many rules only one of them has.
+//! Asks whether two dumps give each packet the same verdict, and which of the rules that only one of them has can match.
+pub(crate) mod found;
+
 use crate::asking::Asking;
+use crate::difference::found::{Difference, Differing, HookAnswer, HookLikeness, Pair};
 use crate::each_rule::count_rules;
+use crate::each_rule::known::{Course, Form};
+use crate::each_rule::tally::Tally;
+use crate::walking::walk::Walk;
 use crate::walking::walks_of;
 use fields::{Hook, Words};
-use findings::{
-    Course, Difference, Differing, Dump, Form, HookAnswer, HookLikeness, OpenConditions, Pair,
-    Tally, Walk,
-};
 use questions::{Likeness, Need, WrittenPacket};
+use rulesets::{Dump, OpenConditions};
 use std::alloc::AllocError;
 use std::io::IsTerminal;
 use std::rt::Clock;

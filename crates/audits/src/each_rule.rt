@@ -3,9 +3,15 @@ ghost use Rattle.std.specs.Prelude.{◌<◌, ◌≤◌, length};
 ghost use Rattle.questions.specs.Scopes.{table_of};
 ghost use Rattle.table.specs.chains.Table.{chain_at};
 
+pub(crate) mod deciding;
+pub(crate) mod known;
+pub(crate) mod tally;
+
 use crate::asking::Asking;
-use findings::{Course, Form, Found, FoundRule, Known, Tally, contradict};
+use crate::each_rule::known::{Course, Form, Found, FoundRule, Known};
+use crate::each_rule::tally::Tally;
 use questions::{Life, Need, Reason, Subject};
+use rulesets::contradict;
 use std::alloc::AllocError;
 use std::io::IsTerminal;
 use std::rt::Clock;

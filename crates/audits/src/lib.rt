@@ -1,22 +1,23 @@
 //! An audit: the questions that are asked of whole dumps, rule by rule, hook by hook and packet by packet, with how many steps they may take
-//! and how far they are.
+//! and how far they are; and what was found, as data.
 #![tactic(auto)]
 
 mod asking;
-mod branches;
-mod covering_answers;
 mod difference;
 mod each_rule;
 mod marking;
 mod outcomes;
-mod packet_walks;
-mod possible;
-mod progress;
 mod walking;
 
 pub use asking::Asking;
 pub use difference::ask_difference;
+pub use difference::found::{Difference, Differing, HookAnswer, HookLikeness, Pair};
 pub use each_rule::ask_rules;
+pub use each_rule::deciding::{Standing, policies_give, policy_of, rule_at, verdict_of};
+pub use each_rule::known::{Course, Form, Found, FoundRule, Known};
+pub use each_rule::tally::Tally;
 pub use marking::mark_packet;
+pub use marking::marks::Marks;
 pub use outcomes::ask_outcomes;
-pub use packet_walks::ask_packets;
+pub use walking::packet_walks::ask_packets;
+pub use walking::walk::{Branch, GivenPacket, PacketWalks, Passed, Walk};

@@ -1,10 +1,16 @@
 //! A packet marks the rules that it matches.
+pub(crate) mod covering_answers;
+pub(crate) mod marks;
+pub(crate) mod possible;
+
 use crate::asking::Asking;
-use crate::covering_answers::{all_have, fewest_answers};
-use crate::possible::mark_possible;
+use crate::marking::covering_answers::{all_have, fewest_answers};
+use crate::marking::marks::Marks;
+use crate::marking::possible::mark_possible;
+use crate::walking::walk::{Passed, Walk};
 use crate::walking::walks_of;
-use findings::{Dump, Marks, OpenConditions, Passed, Walk};
 use questions::WrittenPacket;
+use rulesets::{Dump, OpenConditions};
 use std::alloc::{AllocError, Global};
 use std::io::IsTerminal;
 use std::rt::Clock;

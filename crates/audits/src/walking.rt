@@ -1,7 +1,12 @@
 //! The walks of one packet, each with the answers under which it is so.
+pub(crate) mod branches;
+pub(crate) mod packet_walks;
+pub(crate) mod walk;
+
 use crate::asking::Asking;
-use findings::{Dump, OpenConditions, Passed, Walk, contradict, has_opposite};
+use crate::walking::walk::{Passed, Walk};
 use questions::{Leaf, Need, WrittenPacket};
+use rulesets::{Dump, OpenConditions, contradict, has_opposite};
 use std::alloc::{AllocError, Global};
 use std::io::IsTerminal;
 use std::rt::Clock;
@@ -61,13 +66,6 @@ fn walk_of(
     })
 }
 
-// The needs again.
-fn copy_of(alloc: Global, needs: &[Need]) -> Result<Vec<Need>, AllocError> {
-    let mut copy = Vec::new(alloc);
-    copy.extend_from_slice(needs)?;
-    Ok(copy)
-}
-
 // The rules of a trail, none of which needs anything.
 fn passed_on(alloc: Global, trail: &Trail) -> Result<Vec<Passed>, AllocError> {
     let mut rules = Vec::new(alloc);
@@ -97,7 +95,7 @@ fn plain_walk(
 ) -> Result<Walk, AllocError> {
     let trail = table.trail(packet.packet())?;
     Ok(Walk {
-        given: copy_of(alloc, given)?,
+        given: given.to_vec(alloc)?,
         rules: passed_on(alloc, &trail)?,
         verdict: trail.verdict(),
         by: decider_of(&trail),

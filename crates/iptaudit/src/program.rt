@@ -1,6 +1,6 @@
 //! What the program does: it reads its line, answers what is asked, and ends with the status.
-
-use answers::{Fault, Source};
+use crate::fault::Fault;
+use crate::source::Source;
 use audits::Asking;
 use programs::{Audit, answer_line, buffered_output, let_go, texts_after_name, words_given};
 use std::io::{self, IsTerminal};

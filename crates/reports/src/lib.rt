@@ -1,20 +1,11 @@
-//! What an audit finds, as lines.
+//! What an audit found, as lines and as JSON documents by the schema `docs/schemas/iptaudit.json`.
 #![tactic(auto)]
 
-mod condition_text;
-mod difference;
-mod each_rule;
 mod fault;
-mod open_counts;
-mod outcomes;
-mod packet_walks;
-mod reason_line;
-mod rule_line;
-mod tally;
-mod walk_text;
+mod finding;
+mod json;
+mod lines;
 
-pub use difference::put_differences;
-pub use each_rule::put_rules;
 pub use fault::ReportFault;
-pub use outcomes::put_outcomes;
-pub use packet_walks::put_packets;
+pub use finding::Finding;
+pub use finding::outcomes::Outcomes;

@@ -1,0 +1,74 @@
+//! What the rules and policies do that decide, and so whether a dead rule is redundant or shadowed.
+use fields::Hook;
+use questions::Takers;
+use rules::{Rule, Target};
+use table::{Policy, Step, Table, Verdict};
+
+/// The rule that stands there, if there is one.
+pub fn rule_at(table: &Table, at: Step) -> Option<&Rule> {
+    if at.chain >= table.chain_count() || at.number == 0 || at.number > table.rule_count(at.chain) {
+        return None;
+    }
+    Some(table.rule(at.chain, at.number))
+}
+
+/// The verdict of a rule that decides; none of one that sends packets on.
+pub fn verdict_of(table: &Table, at: Step) -> Option<Verdict> {
+    match rule_at(table, at)?.target() {
+        Some(Target::Accept) => Some(Verdict::Accept),
+        Some(Target::Drop) => Some(Verdict::Drop),
+        Some(Target::Reject(kind)) => Some(Verdict::Reject(kind)),
+        Some(Target::Log | Target::Return | Target::Jump(_) | Target::Goto(_)) | None => None,
+    }
+}
+
+/// The verdict of the policy of a hook's chain.
+pub fn policy_of(table: &Table, hook: Hook) -> Verdict {
+    let place = match hook {
+        Hook::Input => 0,
+        Hook::Forward => 1,
+        Hook::Output => 2,
+    };
+    match table.policy(place) {
+        Some(Policy::Drop) => Verdict::Drop,
+        Some(Policy::Accept) | None => Verdict::Accept,
+    }
+}
+
+/// Whether the policies of all these hooks give this verdict.
+pub fn policies_give(table: &Table, hooks: &[Hook], verdict: Verdict) -> bool {
+    for hook in hooks {
+        if policy_of(table, *hook) != verdict {
+            return false;
+        }
+    }
+    true
+}
+
+/// What a dead rule is whose packets others decide.
+#[derive(Clone, Copy)]
+pub enum Standing {
+    /// All of them do what it would do.
+    Redundant,
+    /// Some do something else.
+    Shadowed,
+}
+
+// Whether each rule and each policy that decides gives this verdict.
+fn all_give(table: &Table, takers: &Takers, verdict: Verdict) -> bool {
+    for rule in &takers.rules {
+        if verdict_of(table, *rule) != Some(verdict) {
+            return false;
+        }
+    }
+    policies_give(table, takers.policies.as_slice(), verdict)
+}
+
+/// Whether those who decide a dead rule's packets do what it would do; none of a rule that would decide none.
+pub(crate) fn standing_of(table: &Table, at: Step, takers: &Takers) -> Option<Standing> {
+    let verdict = verdict_of(table, at)?;
+    if all_give(table, takers, verdict) {
+        return Some(Standing::Redundant);
+    }
+    Some(Standing::Shadowed)
+}

@@ -1,6 +1,0 @@
-use Rattle.std.proofs.Common.{◌≡◌}
-use Rattle.fields.specs.numbers.Field.{address_top}
-use Rattle.inputs.proofs.address_types.own_addresses.Given as goal
-
-abbrev pub invariant-loop-word : goal.invariant-loop-word
-invariant-loop-word l = l.own.top ≡ address_top

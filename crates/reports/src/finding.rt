@@ -1,0 +1,118 @@
+//! What an audit found, which is written as lines or as a JSON document.
+pub(crate) mod outcomes;
+
+use crate::fault::ReportFault;
+use crate::finding::outcomes::Outcomes;
+use crate::json::difference::differences_answer;
+use crate::json::document::{Answer, text_of};
+use crate::json::each_rule::rules_answer;
+use crate::json::packet_walks::packets_answer;
+use crate::lines::difference::put_differences;
+use crate::lines::each_rule::put_rules;
+use crate::lines::packet_walks::put_packets;
+use audits::{Course, Difference, Found, GivenPacket, PacketWalks, Pair};
+use fields::Tap;
+use rulesets::{MatchCount, OpenConditions, open_counts};
+use std::alloc::{AllocError, Global};
+use std::io::Write;
+use table::Table;
+
+/// What an audit found.
+#[derive(Clone, Copy)]
+pub enum Finding<'a> {
+    /// What is known of rules.
+    Rules {
+        /// What was asked.
+        course: Course<'a>,
+        /// What is known.
+        found: &'a Found,
+    },
+    /// Whether two dumps give each packet the same verdict.
+    Difference {
+        /// The dumps.
+        pair: Pair<'a>,
+        /// What is known of them.
+        found: &'a Difference,
+    },
+    /// The verdicts of a set of packets.
+    Outcomes(Outcomes<'a>),
+    /// What becomes of each of some packets.
+    Walks {
+        /// The table in which they walk.
+        table: &'a Table,
+        /// Its conditions.
+        open: &'a OpenConditions,
+        /// The packets.
+        packets: &'a [GivenPacket],
+        /// What becomes of each, in their order.
+        found: &'a PacketWalks,
+    },
+}
+
+impl Finding<'_> {
+    // How many conditions are open; a set of packets is asked for where there are none.
+    fn counts(&self, alloc: Global) -> Result<Vec<MatchCount>, AllocError> {
+        match self {
+            Finding::Rules { course, .. } => open_counts(alloc, course.open),
+            Finding::Difference { pair, .. } => open_counts(alloc, pair.open),
+            Finding::Outcomes(_) => Ok(Vec::new(alloc)),
+            Finding::Walks { open, .. } => open_counts(alloc, open),
+        }
+    }
+
+    // Writes it as lines.
+    fn put<W: Write>(
+        &self,
+        alloc: Global,
+        counts: &[MatchCount],
+        output: &mut Tap<W>,
+    ) -> Result<(), ReportFault> {
+        match self {
+            Finding::Rules { course, found } => put_rules(*course, found, counts, output)?,
+            Finding::Difference { pair, found } => put_differences(*pair, found, counts, output)?,
+            Finding::Outcomes(found) => found.put(alloc, output)?,
+            Finding::Walks {
+                table,
+                open,
+                packets,
+                found,
+            } => put_packets(table, open, packets, found, counts, output)?,
+        }
+        Ok(())
+    }
+
+    // The same as JSON.
+    fn entry(&self, alloc: Global, counts: &[MatchCount]) -> Result<Answer, AllocError> {
+        match self {
+            Finding::Rules { course, found } => rules_answer(alloc, *course, found, counts),
+            Finding::Difference { pair, found } => differences_answer(alloc, *pair, found, counts),
+            Finding::Outcomes(found) => found.entry(alloc),
+            Finding::Walks {
+                table,
+                open,
+                packets,
+                found,
+            } => packets_answer(alloc, table, open, packets, found, counts),
+        }
+    }
+
+    /// Writes it: as a document with a newline behind it where `json` is set, else as lines.
+    ///
+    /// # Errors
+    ///
+    /// Where memory was refused, or a write failed.
+    pub fn write<W: Write>(
+        &self,
+        alloc: Global,
+        json: bool,
+        output: &mut Tap<W>,
+    ) -> Result<(), ReportFault> {
+        let counts = self.counts(alloc)?;
+        if json {
+            let text = text_of(alloc, &self.entry(alloc, counts.as_slice())?)?;
+            output.put_all(&[text.as_slice(), b"\n"])?;
+            return Ok(());
+        }
+        self.put(alloc, counts.as_slice(), output)
+    }
+}
