@@ -1,5 +1,6 @@
 """What tests the programs, the commands, the documents and what is packed: `python3 -m pytest tests`, and `-k reach` after it for the tests whose names
-have a word. `--quick` runs them on programs that are built without a proof.
+have a word. `--quick` runs them on programs that are built without a proof. `tests/soak MINUTES` draws rulesets, sessions and dumps by further seeds. What ends
+in `.rows` has rows of data, which tests/shared/row_files reads.
 
     model       the plain model: a slow program that answers as iptsim has to
     drawn       rules, packets, sessions and dumps that are drawn at random

@@ -93,24 +93,11 @@ def program(config, name):
     return Command(path)
 
 
-@pytest.fixture(scope="session")
-def iptsim(pytestconfig):
-    return program(pytestconfig, "iptsim")
+def fixture_of(name):
+    return pytest.fixture(scope="session", name=name)(lambda pytestconfig: program(pytestconfig, name))
 
 
-@pytest.fixture(scope="session")
-def iptaudit(pytestconfig):
-    return program(pytestconfig, "iptaudit")
-
-
-@pytest.fixture(scope="session")
-def calls(pytestconfig):
-    return program(pytestconfig, "calls")
-
-
-@pytest.fixture(scope="session")
-def dump_cases(pytestconfig):
-    return program(pytestconfig, "dump_cases")
+iptsim, iptaudit, calls, dump_cases = map(fixture_of, PROGRAMS)
 
 
 @pytest.fixture

@@ -9,15 +9,21 @@
 - Each allocation of a run refused, one in each run: the run ends with status 4, or as without.
 """
 
-import random
-
 import pytest
 
 from commands import extensions
-from tests.drawn.dumps.lines import Writer
-from tests.drawn.dumps.rows import ADDED, DUMPS, LINES, PAIRS, REFUSED
+from tests.drawn.dumps import Writer
+from tests.drawn.lots import Lots
 from tests.memory.refusing.program import preloaded
+from tests.shared.row_files import rows_in
 from tests.shared.rows import same
+
+# Rows of files, which say at their top what they are.
+LINES = [(line, own, *conditions) for (line,), (own,), conditions in rows_in("answers/taken_apart/lines.rows", "><?")]
+DUMPS = [(first + more, due or first + more) for first, more, due in rows_in("answers/taken_apart/dumps.rows", ">|<")]
+REFUSED = [(first + more, fault) for first, more, (fault,) in rows_in("answers/taken_apart/refused.rows", ">|!")]
+ADDED = [(option, lines, due) for (option,), lines, due in rows_in("answers/taken_apart/added.rows", ">|<")]
+PAIRS = [(first + more, *rest) for first, more, *rest in rows_in("answers/taken_apart/pairs.rows", ">|+<=?")]
 
 DRAWN = 3000
 # So many lines are in one dump, so many further allocations are refused after the last that counts, and so many are at most.
@@ -138,10 +144,6 @@ def test_refusals(dump_cases, proved, folder):
     assert changed > 100
 
 
-def section(lines):
-    return dump(lines.split(b"\n"))
-
-
 def asked_by(chain, conditions):
     """What is printed of the conditions of the only rule of a chain."""
     if conditions:
@@ -159,37 +161,36 @@ def test_line(row, dump_cases):
     assert run(dump_cases, dump([given])) == (0, [b"*filter", own, b"COMMIT", *asked_by(chain, conditions)])
 
 
-@pytest.mark.parametrize("given, due", DUMPS, ids=lambda text: repr(text)[2:40])
+@pytest.mark.parametrize("given, due", DUMPS, ids=lambda lines: repr(lines)[2:40])
 def test_dump(given, due, dump_cases):
-    assert run(dump_cases, given + b"\n") == (0, due.split(b"\n"))
+    assert run(dump_cases, b"".join(line + b"\n" for line in given)) == (0, due)
 
 
-@pytest.mark.parametrize("given, number, fault", REFUSED, ids=lambda text: repr(text)[2:40])
-def test_refused(given, number, fault, dump_cases):
-    assert run(dump_cases, section(given)) == (1, [b"line %d: %s" % (number + 1, fault)])
+@pytest.mark.parametrize("given, fault", REFUSED, ids=lambda text: repr(text)[2:40])
+def test_refused(given, fault, dump_cases):
+    assert run(dump_cases, dump(given)) == (1, [b"line %d: %s" % (1 + len(given), fault)])
 
 
-@pytest.mark.parametrize("option, given, status, due", ADDED, ids=lambda text: repr(text)[:40])
-def test_added(option, given, status, due, dump_cases):
-    assert run(dump_cases, section(given), [option]) == (status, due.splitlines())
+@pytest.mark.parametrize("option, given, due", ADDED, ids=lambda text: repr(text)[:40])
+def test_added(option, given, due, dump_cases):
+    assert run(dump_cases, dump(given), [option]) == (0 if due else 2, due)
 
 
-@pytest.mark.parametrize("first, second, needs, further, conditions", PAIRS, ids=lambda text: repr(text)[2:40])
+@pytest.mark.parametrize("first, second, needs, further, conditions", PAIRS, ids=lambda lines: repr(lines)[2:40])
 def test_pair(first, second, needs, further, conditions, dump_cases):
-    status, lines = run(dump_cases, section(first) + b"# next\n" + section(second))
-    due = b"\n".join([needs, b"# next", further, conditions]).split(b"\n")
-    assert (status, [line for line in lines if line[:2] == b"# "]) == (0, due)
+    status, lines = run(dump_cases, dump(first) + b"# next\n" + dump(second))
+    assert (status, [line for line in lines if line[:2] == b"# "]) == (0, [*needs, b"# next", *further, *conditions])
 
 
 def test_each_option(dump_cases, seed):
-    expect(dump_cases, list(each_option(random.Random(seed))))
+    expect(dump_cases, list(each_option(Lots(seed))))
 
 
 @pytest.mark.parametrize("at", range(0, DRAWN, TOGETHER))
 def test_drawn(at, dump_cases, seed, times):
     """Lines from one on; and the same, with others among them."""
     for number in range(at, DRAWN * times, DRAWN):
-        draw = random.Random(f"{seed} {number}")
+        draw = Lots(f"{seed} {number}")
         first = [drawn(draw) for _ in range(TOGETHER)]
         expect(dump_cases, first)
         expect(dump_cases, first, edited(draw, first))

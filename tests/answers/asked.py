@@ -6,8 +6,9 @@ each field one packet stands for all that no rule tells from it, so that some hu
 
 A small ruleset has up to eleven rules, in INPUT and in one chain to which they jump:
 
-- `dead`: just the rules that none of them comes to; and where it says why, who takes a rule's packets, which are just those who decide them, and
-  what each does, or which rules lead to its chain, of which none lets one of its packets through; and how many are redundant, and how many shadowed.
+- `dead`: just the rules that none of them comes to; and where it says why, who takes a rule's packets, which are just those who decide those that
+  come to its chain, or all of them if none does, and what each does, or which rules lead to its chain, of which none lets one of its packets
+  through; and how many are redundant, and how many shadowed.
 - `compare` with an edited ruleset: whether all of them get the same verdicts, or a packet that gets two, with its walks; how many rules changed, and
   how many of these none of them comes to; and with itself, without a step.
 - `tests`: a packet for each rule that isn't dead, and by the model its walk has the rule.
@@ -27,16 +28,16 @@ No answer may be unclear.
 import collections
 import contextlib
 import os
-import random
 import re
 import subprocess
 
 import pytest
 
+from tests.drawn.lots import Lots
 from tests.drawn.rulesets.changes import ways
 from tests.drawn.rulesets.edits import edited
 from tests.drawn.rulesets.large import Large
-from tests.drawn.rulesets.model import dead_of, matched, packets_of, reply, verdict_in, walks
+from tests.drawn.rulesets.model import comes_to, dead_of, matched, packets_of, reply, verdict_in, walks
 from tests.drawn.rulesets.ruleset import target_of, verdict_of
 from tests.drawn.rulesets.small import FLAGS, OTHERS, PORTS, SOURCES, TYPES, Small
 
@@ -78,6 +79,12 @@ def expect_takers(name, ruleset, reason, deciders, said):
     return set(does.values()) == {verdict_of(ruleset.named()[name])}
 
 
+def at_stake(name, ruleset, packets, there):
+    """Of each packet whether those are told who take it from a dead rule: it matches it, and comes to its chain; or none that it matches does."""
+    near = [here and comes for here, comes in zip(there, comes_to(ruleset, name.split()[0], packets))]
+    return near if any(near) else there
+
+
 def expect_ways(name, ruleset, reason, packets, there, said):
     """Compares by which rules packets come to the chain of a dead rule, and whether one of these has a packet of it."""
     listed, more = listed_in(reason.removeprefix("no packet that comes from ").removesuffix(" fits"))
@@ -112,7 +119,8 @@ def expect_dead(audit, file, ruleset, packets, found):
     for name, reason in told.items():
         there = matched(ruleset, ruleset.named()[name], packets)
         if reason.startswith("taken by "):
-            does_same = expect_takers(name, ruleset, reason, {walk.by for here, walk in zip(there, found) if here}, said)
+            stake = at_stake(name, ruleset, packets, there)
+            does_same = expect_takers(name, ruleset, reason, {walk.by for here, walk in zip(stake, found) if here}, said)
             takers += 1
             if verdict_of(ruleset.named()[name]):
                 standings[does_same] += 1
@@ -331,7 +339,7 @@ def drawn(kind, number, folder, iptaudit, seed, times):
     """Asks about each ruleset of a kind and a number; returns how often each answer came."""
     counts, expect, rulesets = collections.Counter(), *{"small": (expect_small, SMALL), "large": (expect_large, LARGE)}[kind]
     for at in range(number, 1 + rulesets * times, rulesets):
-        counts.update(expect(iptaudit.path, random.Random(f"{seed} {kind} {at}"), folder))
+        counts.update(expect(iptaudit.path, Lots(f"{seed} {kind} {at}"), folder))
     return counts
 
 

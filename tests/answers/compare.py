@@ -4,8 +4,7 @@ they write and their statuses are the same, to the byte.
 The run of the gate is some 100,000 lines; there each kind of answer that DUE names has to come often enough, or the run shows less than it says.
 `--times N` draws N times as many, and `--seed SEED` others.
 
-At an input whose answers differ a test shows the shortest beginning of it that still differs, less what it doesn't need, with its file, both answers
-and the seed.
+Of an input whose answers differ a test shows the few lines that still do, as hypothesis finds them, with its file, both answers and the seed.
 """
 
 import collections
@@ -16,12 +15,13 @@ import pytest
 from tests import ROOT
 from tests.drawn.sessions.inputs import drawn_input
 from tests.drawn.sessions.limits import LIMITS, limit_input
+from tests.drawn.smallest import smallest
 from tests.model.faults import TEXTS
 from tests.model.session import answer as due
 from tests.shared.rows import Command
 
 # With those that come to the limits, so many inputs of the gate's seed have some more than so many lines.
-INPUTS, LINES, PARTS, LEAST = 1048, 100_000, 16, 20
+INPUTS, LINES, PARTS, LEAST = 1088, 100_000, 16, 20
 VERDICTS = ("ACCEPT by rule", "DROP by rule", "REJECT by rule", "ACCEPT by policy", "DROP by policy")
 STEPS = ("jump", "goto", "RETURN", "end of a chain", "LOG", "no target", "RETURN in a built-in chain", "end after a goto")
 # Each has to come LEAST times in the run of the gate.
@@ -36,66 +36,36 @@ def answer(program, words, data, file):
     return ended.stdout, ended.stderr, ended.returncode
 
 
-def needed(lines, differs):
-    """The lines without those that a difference doesn't need, in pieces that become smaller."""
-    size = max(1, len(lines) // 2)
-    while True:
-        at = 0
-        while at < len(lines):
-            fewer = lines[:at] + lines[at + size :]
-            if differs(fewer):
-                lines = fewer
-            else:
-                at += size
-        if size == 1:
-            return lines
-        size //= 2
+def split(data):
+    return None if data is None else data.split(b"\n")
 
 
-class Difference:
-    """An input whose answers differ, made shorter, and then its file."""
+def answers(program, words, lines, file):
+    """What the program answers to an input of these lines, after a file of these, and what is due."""
+    data, load = b"\n".join(lines), None if file is None else b"\n".join(file)
+    return answer(program, words, data, load), due(words, data, load)
 
-    def __init__(self, program, words, data, file):
-        self.program, self.words, self.lines = program, words, data.split(b"\n")
-        self.file = None if file is None else file.split(b"\n")
 
-    def differs(self, lines, file):
-        data, load = b"\n".join(lines), None if file is None else b"\n".join(file)
-        return answer(self.program, self.words, data, load) != due(self.words, data, load)
+def difference(program, name, each):
+    """What is told of an input whose answers differ: a small one that does, with its file, and both answers."""
+    def differs(lines, file):
+        came, wanted = answers(program, each.words, lines, file)
+        return came != wanted
 
-    def beginning(self):
-        """The shortest beginning of the input that differs, by halves: what comes after a difference doesn't take it back."""
-        equal, differs = 0, len(self.lines)
-        while differs - equal > 1:
-            middle = (equal + differs) // 2
-            if self.differs(self.lines[:middle], self.file):
-                differs = middle
-            else:
-                equal = middle
-        return self.lines[:differs]
-
-    def shortest(self):
-        """The input and the file, each without the lines that it doesn't need."""
-        lines = needed(self.beginning(), lambda fewer: self.differs(fewer, self.file))
-        if self.file is None:
-            return b"\n".join(lines), None
-        return b"\n".join(lines), b"\n".join(needed(self.file, lambda fewer: self.differs(lines, fewer)))
-
-    def report(self, seed):
-        data, file = self.shortest()
-        came, wanted = answer(self.program, self.words, data, file), due(self.words, data, file)
-        texts = [] if file is None else [("the file", file)]
-        texts += [("input", data), ("the program", came[0] + came[1]), ("the model", wanted[0] + wanted[1])]
-        lines = [f"the program and the model differ on an input of the seed {seed}: {' '.join(self.words)}"]
-        for head, text in texts:
-            lines += [f"== {head}", *("  " + repr(line)[2:-1] for line in text.split(b"\n"))]
-        return "\n".join([*lines, f"== statuses: {came[2]} of the program, {wanted[2]} of the model"])
+    file = split(each.file)
+    lines = smallest(split(each.data), lambda fewer: differs(fewer, file))
+    file = file and smallest(file, lambda fewer: differs(lines, fewer))
+    came, wanted = answers(program, each.words, lines, file)
+    told = [f"the program and the model differ on an input of the seed {name}: {' '.join(each.words)}"]
+    for head, text in (("the file", file or []), ("input", lines), ("the program", split(came[0] + came[1])), ("the model", split(wanted[0] + wanted[1]))):
+        told += [f"== {head}", *("  " + repr(line)[2:-1] for line in text)]
+    return "\n".join([*told, f"== statuses: {came[2]} of the program, {wanted[2]} of the model"])
 
 
 def counted(program, name, each):
     """Compares the answers to an input: how often each kind came, and how many lines there were."""
     if answer(program, each.words, each.data, each.file) != each.due:
-        pytest.fail(Difference(program, each.words, each.data, each.file).report(name), pytrace=False)
+        pytest.fail(difference(program, name, each), pytrace=False)
     return {**each.counts, "lines": each.data.count(b"\n")}
 
 

@@ -9,7 +9,8 @@ matches what it matches by itself, if all holds that it needs.
 
 - `dead`: just the rules that under no assignment any of these packets comes to;
 - the reason why one is dead: no jumps lead to its chain; none of these packets is meant for it, and matches it under an assignment by which all holds
-  that it needs; only rules that match no packet with it lead to its chain; or just these rules and policies decide the packets that are meant for it;
+  that it needs; only rules that match no packet with it lead to its chain; or just these rules and policies decide the packets that are meant for it
+  and may come to its chain, or all that are meant for it if none may;
 - `live`: no condition is answered twice; and the rule is on the walk of the packet under each assignment that gives the answers, but not under each
   that gives fewer of the first of them;
 - of two rulesets, of which the second is the first one after an edit: `same` just if they give each packet the same verdict under each assignment; else a
@@ -19,12 +20,12 @@ No answer may be unclear.
 """
 
 import itertools
-import random
 
 import pytest
 
+from tests.drawn.lots import Lots
 from tests.drawn.rulesets.large import Large
-from tests.drawn.rulesets.model import matched, packets_of
+from tests.drawn.rulesets.model import comes_to, matched, packets_of
 from tests.drawn.rulesets.ruleset import target_of, verdict_of
 from tests.drawn.rulesets.small import Small
 
@@ -107,10 +108,10 @@ def chains_of(ruleset):
 
 
 def matches_of(ruleset, packets):
-    """Of each packet which rules match it."""
-    rules = ruleset.named()
-    columns = {name: matched(ruleset, rule, packets) for name, rule in rules.items()}
-    return [{name: columns[name][at] for name in rules} for at in range(len(packets))]
+    """Of each packet which rules match it, and to which of their chains it may come."""
+    columns = {name: matched(ruleset, rule, packets) for name, rule in ruleset.named().items()}
+    columns.update({chain: comes_to(ruleset, chain, packets) for chain in sorted({rule.split()[1] for rule in ruleset.rules})})
+    return [{name: column[at] for name, column in columns.items()} for at in range(len(packets))]
 
 
 def assignments(conditions, answers=()):
@@ -224,13 +225,14 @@ def check_reason(name, words, rules, chains, walks, seen):
     led = name.split()[0] in led_to(chains)
     matching = [(row, can, trail) for row, can, trail in walks if row[name]] if led else []
     meant = [(row, trail) for row, can, trail in matching if can[name]]
+    near = [(row, trail) for row, trail in meant if row[name.split()[0]]]
     right = {
         "unknown": led and "--ports" in rules[name],
         "impossible": not any(row[name] for row, _, _ in walks),
         "unreached": not led,
         "unmatched": not meant,
         "excluded": name.split()[0] not in led_to(chains, listed) and not any(row[way] for row, _ in meant for way in listed),
-        "taken": listed == sorted({decider_on(trail, rules) for _, trail in meant}),
+        "taken": listed == sorted({decider_on(trail, rules) for _, trail in near or meant}),
     }
     if not right[kind] or (kind in ("excluded", "taken") and not meant):
         raise Wrong(f"{name} is {kind} {listed}")
@@ -277,7 +279,7 @@ def compare(ruleset, needs, conditions, said, packets, seen):
 def test_conditions(number, calls, seed, times, sum_up):
     seen = set()
     for at in range(number, RULESETS * times, RULESETS):
-        check(calls, random.Random(f"{seed} {at}"), at, seen)
+        check(calls, Lots(f"{seed} {at}"), at, seen)
     counts = sum_up("conditions", RULESETS, dict.fromkeys(seen, 1))
     if counts:
         assert [kind for kind in DUE if not counts[kind]] == []

@@ -7,6 +7,7 @@ import signal
 import pytest
 
 from tests import ROOT
+from tests.shared.row_files import rows_in
 from tests.shared.rows import UNREAD, Row, each
 
 POLICIES = b":INPUT DROP [1:60]\n:FORWARD DROP [0:0]\n:OUTPUT ACCEPT [0:0]\n"
@@ -28,114 +29,8 @@ TARGET = b"neither a chain nor a target of iptsim: make a chain with a line `:NA
 NO_PROGRAM = b"check: cannot run /nothing: No such file or directory; IPTSIM has to name the program\n"
 WHOLE = b"a section ends with the line COMMIT: is the file complete?"
 
-# Lines of one section, each with its fault and the word that is refused; None where it is accepted.
-LINES = [
-    (b":INPUT DROP [1:60]", None, None),
-    (b":a - [0:0]", None, None),
-    (b":b -", None, None),
-    # Forms of chain lines.
-    (b":INPUT DROP [1:60]", b"R3 duplicate chain line", b":INPUT"),
-    (b":a - [0:0]", b"R3 duplicate chain line", b":a"),
-    (b":OUTPUT REJECT [0:0]", b"R2 bad chain line", b"REJECT"),
-    (b":OUTPUT DROP [0:x]", b"R2 bad chain line", b"[0:x]"),
-    (b":FORWARD DROP [0:0] more", b"R2 bad chain line", b"more"),
-    (b":FORWARD", b"R2 bad chain line", b":FORWARD"),
-    # After a form that is refused a second line for the name is none; and the chain is there.
-    (b":FORWARD DROP [0:0]", None, None),
-    (b":c DROP [0:0]", b"R2 bad chain line", b"DROP"),
-    (b"-A c -j DROP", None, None),
-    (b"-A INPUT -j c", None, None),
-    # A name that no chain can have: lines with it say nothing new, but for what is wrong elsewhere in them.
-    (b":-no - [0:0]", b"T3 bad chain name", b":-no"),
-    (b"-A -no -j DROP", None, None),
-    (b"-A INPUT -j -no", None, None),
-    (b"-A -no -m limit -j DROP", b"P7 unknown match", b"limit"),
-    # Words of a rule.
-    (b"-A INPUT -m limit --limit 5/min -j ACCEPT", b"P7 unknown match", b"limit"),
-    (b"[3:180] -A INPUT -i eth0 -m mac --mac-source 00:00:00:00:00:01", b"P7 unknown match", b"mac"),
-    (b"-A INPUT -m comment --comment \"-m limit\" -m \"recent\"", b"P7 unknown match", b"\"recent\""),
-    (b"-A FORWARD -p tcp -j TCPMSS --clamp-mss-to-pmtu", b"P1 unknown option", b"--clamp-mss-to-pmtu"),
-    (b"-A INPUT -j LOG --log-prefix \"a b\" --log-macdecode", b"P1 unknown option", b"--log-macdecode"),
-    (b"-A INPUT -s", b"P2 value missing", b"-s"),
-    (b"-A INPUT ! -s", b"P2 value missing", b"-s"),
-    (b"-A INPUT -p tcp --tcp-flags SYN", b"P2 value missing", b"--tcp-flags"),
-    (b"-A INPUT -j DROP !", b"P2 value missing", b"!"),
-    (b"-A INPUT -p tcp --dport ssh -j ACCEPT", b"P3 bad value", b"ssh"),
-    (b"-A INPUT -p tcp --dport 1 -p udp --dport domain", b"P4 repeated option", b"-p"),
-    (b"-A INPUT -p tcp -m multiport --dports 22,http -j ACCEPT", b"P3 bad value", b"22,http"),
-    (b"-A INPUT -p tcp -m multiport ! --ports domain -j ACCEPT", b"P3 bad value", b"domain"),
-    (b"-A INPUT -p tcp -m multiport ! --ports 53 -m ttl --ttl-lt 5 -j ACCEPT", None, None),
-    (b"-A INPUT -m ttl --ttl-eq 256 -j ACCEPT", b"P3 bad value", b"256"),
-    (b"-A INPUT -p ipencap -j ACCEPT", b"P3 bad value", b"ipencap"),
-    (b"-A INPUT -s 1.2.3.4,5.6.7.8 -j ACCEPT", b"P3 bad value", b"1.2.3.4,5.6.7.8"),
-    (b"-A INPUT -j QUEUE", b"P3 bad value", b"QUEUE"),
-    (b"-A INPUT -p tcp --tcp-flags SYM SYN", b"P3 bad value", b"SYM"),
-    (b"-A INPUT -p tcp --tcp-flags SYN,ACK SYM", b"P3 bad value", b"SYM"),
-    (b"-A INPUT -p tcp --tcp-flags SYM,SYN SYN", b"P3 bad value", b"SYM,SYN"),
-    (b"-A INPUT -i eth0 ! -i eth1", b"P4 repeated option", b"-i"),
-    (b"-A INPUT -f -f", b"P4 repeated option", b"-f"),
-    (b"-A INPUT -p tcp -m multiport --sports 1 --ports 2", b"P4 repeated option", b"--ports"),
-    (b"-A INPUT ! -j DROP", b"P5 inversion not allowed", b"-j"),
-    (b"-A INPUT -m ttl ! --ttl-gt 5 -j DROP", b"P5 inversion not allowed", b"--ttl-gt"),
-    (b"-A INPUT --dport 22 -j DROP", b"P6 protocol needed", b"--dport"),
-    (b"-A INPUT -m tcp -m comment --comment x -j DROP", b"P6 protocol needed", b"tcp"),
-    (b"-A INPUT -m multiport --dports 22 -p icmp", b"P6 protocol needed", b"multiport"),
-    (b"-A INPUT -j REJECT --reject-with tcp-reset", b"P6 protocol needed", b"tcp-reset"),
-    (b"-A INPUT " + b"-m comment --comment x " * 16 + b"-m tcp", b"P8 too many matches", b"tcp"),
-    (b"-A INPUT -p tcp " + b"-m comment --comment x " * 16 + b"--dport 22", b"P8 too many matches", b"--dport"),
-    (b"-A INPUT -j a -g b", b"P9 both jump and goto", b"-g"),
-    (b"-A INPUT -m comment --comment " + b"x" * 257, b"P10 text too long", b"x" * 77 + b"..."),
-    (b"-A INPUT -j " + b"q" * 80, b"P3 bad value", b"q" * 80),
-    (b"-A INPUT -j " + b"q" * 81, b"P3 bad value", b"q" * 77 + b"..."),
-    (b"-A INPUT -j LOG --log-prefix \"thirty bytes are one too many..\"", b"P10 text too long", b"\"thirty bytes are one too many..\""),
-    (b"-A INPUT -j DROP --reject-with tcp-reset", b"P11 option of another target", b"--reject-with"),
-    (b"-A INPUT -m conntrack -m comment --comment x -j DROP", b"P12 match option missing", b"conntrack"),
-    (b"-A INPUT -p tcp -m multiport --dport 22", b"P12 match option missing", b"multiport"),
-    (b"-A INPUT -m ttl -j DROP", b"P12 match option missing", b"ttl"),
-    # Of one form with lines above, and refused elsewhere.
-    (b"-A INPUT -m recent --update 5/min -j ACCEPT", b"P7 unknown match", b"recent"),
-    (b"-A INPUT -p tcp --dport 22 -j QUEUE", b"P3 bad value", b"QUEUE"),
-    (b"-A INPUT -p icmq --dport 22 -j ACCEPT", b"P3 bad value", b"icmq"),
-    # Commands.
-    (b"iptables -A INPUT -j DROP", b"C1 no command", b"iptables"),
-    (b"[3:180]", b"C1 no command", b""),
-    (b"-t filter -S", b"C1 no command", b"-S"),
-    (b"-A a -m comment --comment -S", None, None),
-    (b"-A INPUT -j DROP -F", b"C2 two commands", b"-F"),
-    (b"-A", b"C3 wrong number of words", b"-A"),
-    (b"-F a b", b"C3 wrong number of words", b"b"),
-    (b"-t nat -A PREROUTING", b"C4 other table", b"nat"),
-    (b"-t filter -t filter -A INPUT", b"P4 repeated option", b"-t"),
-    (b"-D INPUT 01", b"P3 bad value", b"01"),
-    # The table.
-    (b"-A nowhere -j DROP", b"T1 no such chain", b"nowhere"),
-    (b"-t filter -F nowhere", b"T1 no such chain", b"nowhere"),
-    (b"-N a", b"T2 chain exists", b"a"),
-    (b"-E a b", b"T2 chain exists", b"b"),
-    (b"-E a -x", b"T3 bad chain name", b"-x"),
-    (b"-D INPUT 99", b"T4 number out of range", b"99"),
-    (b"-D INPUT -j RETURN", b"T5 no such rule", b"INPUT"),
-    (b"-X c", b"T6 chain not empty", b"c"),
-    (b"-F c", None, None),
-    (b"-X c", b"T7 chain referenced", b"c"),
-    (b"-X", b"T6 chain not empty", b"-X"),
-    (b"-X INPUT", b"T8 built-in chain", b"INPUT"),
-    (b"-P a DROP", b"T9 not a built-in chain", b"a"),
-    (b"-P INPUT REJECT", b"T16 bad policy", b"REJECT"),
-    (b"-A a -j b", None, None),
-    (b"-A b -m comment --comment \"-j a\" -g a", b"T10 loop", b"a"),
-    (b"-I b 1 -g a", b"T10 loop", b"a"),
-    (b"-A INPUT -i eth0 -j MASQ", b"T11 target chain missing", b"MASQ"),
-    (b"-A INPUT -j OUTPUT", b"T12 target is built-in", b"OUTPUT"),
-    (b"-A INPUT -i eth0 ! -o eth1 -j DROP", b"T13 interface not allowed in this chain", b"-o"),
-    # Words and lines.
-    (b"-A INPUT -m comment --comment \"open -j DROP", b"R5 bad quoting", b"\"open"),
-    (b"-A INPUT -m comment --comment \"a b\" -j a\"b\"", b"R5 bad quoting", b"a\"b\""),
-    (b"-A INPUT -j ACCEPT\r", b"P3 bad value", b"ACCEPT\\r"),
-    (b"-A INPUT -j A\x00\x1b\xc3\xa4", b"P3 bad value", b"A\\x00\\x1b\xc3\xa4"),
-    (b"-A INPUT\t-m  limit", b"P7 unknown match", b"limit"),
-    (b"-A INPUT -m \"\"", b"P7 unknown match", b"\"\""),
-]
+# Lines of one section, each with what is said of it, if it is refused.
+LINES = rows_in("commands/check.rows", ">!")
 ADVICE_OF_LINES = [
     (b'limit, "recent", recent', MEMORY),
     (b'mac, ""', UNKNOWN),
@@ -365,8 +260,8 @@ def json_rows():
 
 def line_rows():
     """All lines in one dump, and each whole file."""
-    data = b"*filter\n" + b"".join(line + b"\n" for line, _, _ in LINES) + b"COMMIT\n"
-    due = [b"d:%d: %s%s\n" % (number, text, b": " + word if word else b"") for number, (_, text, word) in enumerate(LINES, 2) if text]
+    data = b"*filter\n" + b"".join(line + b"\n" for (line,), _ in LINES) + b"COMMIT\n"
+    due = [b"d:%d: %s\n" % (number, text) for number, (_, told) in enumerate(LINES, 2) for text in told]
     due += [b"d: %s: %s\n" % pair for pair in ADVICE_OF_LINES]
     yield Row("all lines", ["d"], {"d": data}, b"".join(due), 1)
     for about, data, output in FILES:

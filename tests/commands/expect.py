@@ -2,6 +2,7 @@
 
 import json
 import os
+import pathlib
 
 import pytest
 
@@ -336,8 +337,7 @@ def test_report(row, command, folder):
     """The report beside what is written without one."""
     path = os.path.join(folder, "report.xml")
     plain, ended = (command("expect").run([*more, *row.words], row.files) for more in ([], ["--junit", path]))
-    with open(path, "rb") as file:
-        same((row.status, row.output, plain.stdout, plain.stderr), (ended.returncode, file.read(), ended.stdout, ended.stderr))
+    same((row.status, row.output, plain.stdout, plain.stderr), (ended.returncode, pathlib.Path(path).read_bytes(), ended.stdout, ended.stderr))
 
 
 def report_rows():
@@ -358,8 +358,7 @@ def test_example(wrong, command, iptsim):
     """The packets of the example, which are those of office.packets: all but the ninth get what is due, and after the edits all do."""
     texts = {}
     for name in ("packets", "edits"):
-        with open(OFFICE + name, "rb") as file:
-            texts[name] = file.read()
+        texts[name] = pathlib.Path(OFFICE + name).read_bytes()
     edited = iptsim.said(["session", "--load", OFFICE + "rules"], texts["edits"] + b"iptables-save\n")
     ended = command("expect").run([OFFICE + "rules" if wrong else "R", OFFICE + "expected"], {"R": edited})
     came = [line.rsplit(b" -> ", 1)[0] for line in ended.stdout.splitlines() if not line.startswith(b"#")]

@@ -3,6 +3,7 @@
 import json
 import os
 
+from tests.shared.row_files import rows_in
 from tests.shared.rows import Row, each, script
 
 USAGE = b"usage: explain [-h] [--why-not] [--json] RULES [PACKET ...]\n"
@@ -53,50 +54,8 @@ WALKS = [
 TCP = b"FORWARD src=192.0.2.7 dst=198.51.100.9 proto=tcp in=eth0 sport=40000 dport=80 flags=syn,ack ct=NEW,DNAT"
 ICMP = b"FORWARD src=192.0.2.7 dst=198.51.100.9 proto=1 out=eth1 icmp=8/0 ttl=9"
 FURTHER = b"FORWARD src=192.0.2.7 dst=198.51.100.9 proto=udp frag=1 \"in=eth0\""
-FAILING = {
-    TCP: [
-        (b"-s 192.0.2.0/30", b"-s 192.0.2.0/30: src is 192.0.2.7"),
-        (b"! -s 192.0.2.0/24", b"! -s 192.0.2.0/24: src is 192.0.2.7"),
-        (b"-d 198.51.100.8", b"-d 198.51.100.8/32: dst is 198.51.100.9"),
-        (b"-i eth+ -o eth+", b"-i eth+ -o eth+: out is none"),
-        (b"! -i eth0", b"! -i eth0: in is eth0"),
-        (b"! -p tcp", b"! -p tcp: proto is tcp"),
-        (b"-f", b"-f: frag is 0"),
-        (b"-p tcp --sport 1:39999", b"-p tcp -m tcp --sport 1:39999: sport is 40000"),
-        (b"-p tcp --sport 40000 ! --dport :80", b"-p tcp -m tcp --sport 40000 ! --dport 0:80: dport is 80"),
-        (b"-p tcp --syn", b"-p tcp -m tcp --tcp-flags FIN,SYN,RST,ACK SYN: flags is syn,ack"),
-        (b"-p tcp -m multiport --sports 1,2", b"-p tcp -m multiport --sports 1,2: sport is 40000"),
-        (b"-p tcp -m multiport ! --dports 70:90", b"-p tcp -m multiport ! --dports 70:90: dport is 80"),
-        (b"-p tcp -m multiport --ports 22", b"-p tcp -m multiport --ports 22: sport is 40000, dport is 80"),
-        (b"-p tcp -m multiport ! --ports 80", b"-p tcp -m multiport ! --ports 80: sport is 40000, dport is 80"),
-        (b"-m iprange --src-range 192.0.2.8-192.0.2.9", b"-m iprange --src-range 192.0.2.8-192.0.2.9: src is 192.0.2.7"),
-        (b"-m iprange ! --dst-range 198.51.100.9",
-         b"-m iprange ! --dst-range 198.51.100.9-198.51.100.9: dst is 198.51.100.9"),
-        (b"-m conntrack --ctstate SNAT,ESTABLISHED", b"-m conntrack --ctstate ESTABLISHED,SNAT: ct is NEW,DNAT"),
-        (b"-m state ! --state NEW", b"-m state ! --state NEW: ct is NEW,DNAT"),
-        (b"-m ttl --ttl-lt 64", b"-m ttl --ttl-lt 64: ttl is 64"),
-        # Of several conditions the first in the order of the listing is named.
-        (b"-p udp -m ttl --ttl-gt 99 -i eth1 -s 192.0.2.7", b"-s 192.0.2.7/32 -i eth1: in is eth0"),
-        (b"-m ttl --ttl-eq 64 -m comment --comment x -p tcp --dport 81",
-         b"-p tcp -m ttl --ttl-eq 64 -m comment --comment x -m tcp --dport 81: dport is 80"),
-        (b"-p tcp --dport 80 --sport 81 -m multiport --dports 80", b"-p tcp -m tcp --sport 81: sport is 40000"),
-    ],
-    ICMP: [
-        (b"-i eth0", b"-i eth0: in is none"),
-        (b"-p icmp --icmp-type ping -m ttl --ttl-eq 8", b"-p icmp -m icmp --icmp-type 8 -m ttl --ttl-eq 8: ttl is 9"),
-        (b"-p icmp ! --icmp-type 8/0", b"-p icmp -m icmp ! --icmp-type 8/0: icmp is 8/0"),
-        (b"-p icmp ! --icmp-type any", b"-p icmp -m icmp ! --icmp-type any: icmp is 8/0"),
-        (b"-m conntrack ! --ctstate INVALID", b"-m conntrack ! --ctstate INVALID: ct is INVALID"),
-        (b"-m ttl ! --ttl-eq 9", b"-m ttl ! --ttl-eq 9: ttl is 9"),
-        (b"-m ttl --ttl-gt 9", b"-m ttl --ttl-gt 9: ttl is 9"),
-    ],
-    FURTHER: [
-        (b"-i eth1", b"-i eth1: in is eth0"),
-        (b"! -f", b"! -f: frag is 1"),
-        (b"-p udp -m udp", b"-p udp -m udp: frag is 1"),
-        (b"-p udp -m ttl --ttl-eq 64 -m multiport --ports 1", b"-p udp -m ttl --ttl-eq 64 -m multiport: frag is 1"),
-    ],
-}
+FAILING = {packet: [(rule, why) for (rule,), (why,) in rows_in(f"commands/failing_{name}.rows", ">!")]
+           for packet, name in ((TCP, "tcp"), (ICMP, "icmp"), (FURTHER, "further"))}
 
 
 def walk_rows():

@@ -3,9 +3,25 @@
 import os
 import signal
 
-from tests.commands.fitted.spellings import NAMES, PROTOCOLS, SERVICES, SPELLINGS
+from tests.shared.row_files import rows_in
 from tests.shared.rows import UNREAD, Row, each, same
 
+# Names of services and protocols, and the words that have bin/fit look there.
+SERVICES = b"""# services
+ssh 22/tcp
+http 80/tcp www web # the web
+domain 53/tcp
+domain\t53/udp
+two 512/tcp
+two 513/udp
+named-association 5/sctp
+none 9/ddp
+"""
+PROTOCOLS = b"ip 0 IP # all\nipencap 4 IP-ENCAP\nipv6 41\nipip 94\npim 103 other\nisis 124\nmobility-header 135\n"
+NAMES = ["--services", "S", "--protocols", "P"]
+
+# Rules in spellings that iptables takes: what is written in their place, and what is said. Those that can't fit have what is said alone.
+SPELLINGS = rows_in("commands/spellings.rows", "><!")
 HEAD = b"*nat\n-A x -m limit -j MASQUERADE\nCOMMIT\n# A comment\n*filter\n:INPUT DROP [1:60]\n:a - [0:0]\n:quiet - [0:0]\n:verdict -\n\n"
 RULES = b"-A a -j ACCEPT\n-A verdict -j DROP\n-A quiet -j LOG\n-A quiet -j RETURN\n"
 DUE = [b"-A INPUT -m limit --limit 5/min --limit-burst 7 -j a"]
@@ -33,94 +49,36 @@ def spelling_rows():
     fitted = [row for row in SPELLINGS if row[1]]
     said = [b"d:%d: %s\n" % (FIRST + at, note) for at, row in enumerate(fitted) for note in row[2]]
     written = dump(line for row in fitted for line in row[1])
-    yield Row("spellings", [*NAMES, "d"], files(dump(row[0] for row in fitted)), written, 0, b"".join(said))
+    yield Row("spellings", [*NAMES, "d"], files(dump(line for (line,), *_ in fitted)), written, 0, b"".join(said))
     left = [row for row in SPELLINGS if not row[1]]
-    said = [b"fit: d:%d: %s\n" % (FIRST + at, row[2]) for at, row in enumerate(left)]
-    yield Row("lines that can't fit", [*NAMES, "d"], files(dump(row[0] for row in left)), b"", 1, b"".join(said))
+    said = [b"fit: d:%d: %s\n" % (FIRST + at, fault) for at, (*_, (fault,)) in enumerate(left)]
+    yield Row("lines that can't fit", [*NAMES, "d"], files(dump(line for (line,), *_ in left)), b"", 1, b"".join(said))
     # A line of several addresses before one that is refused: it has the number that it has in the file.
     both = dump([b"-A INPUT -s 1.1.1.1,2.2.2.2", b"-A INPUT -s x"])
     yield Row("a line after a list", ["d"], files(both), b"", 1, b"fit: d:%d: P3 bad value: x\n" % (FIRST + 1))
 
 
 # Rules that decide nothing: what is written in their place, and what is said to be taken out.
-MANY = b"""
- -m recent --update --seconds 30 --reap --hitcount 6 --rttl --name x --mask 255.255.255.255 --rsource
- -m hashlimit --hashlimit-above 1/sec --hashlimit-burst 9 --hashlimit-mode srcip,dstport --hashlimit-srcmask 24 --hashlimit-name n
- -m set ! --match-set name src,dst --return-nomatch
- -m string --algo bm --from 1 --to 9 --icase ! --string "a b"
- -m connlimit --connlimit-upto 3 --connlimit-mask 24 --connlimit-saddr
- -m time --timestart 08:00 --timestop 18:00 ! --weekdays Sa,Su --kerneltz
- -m policy --dir in --pol ipsec --strict --reqid 1 --proto esp --mode tunnel --tunnel-src 1.1.1.1 --tunnel-dst 2.2.2.2 --next
- -m statistic --mode nth --every 3 --packet 0
- -m physdev --physdev-in eth0 ! --physdev-is-bridged
- -m connbytes --connbytes 1:2 --connbytes-dir both --connbytes-mode bytes
- -m owner --uid-owner 0 --suppl-groups --gid-owner 0
- -m addrtype --limit-iface-in --src-type LOCAL""".replace(b"\n", b"")
-GONE, OUT = b"the rule gives no verdict, taken out: ", b"option written out: "
-QUIET = [
-    (b"-A FORWARD -p tcp --tcp-flags SYN,RST SYN -j TCPMSS --clamp-mss-to-pmtu", b"-A FORWARD -p tcp --tcp-flags SYN,RST SYN",
-     [(GONE, b"-j TCPMSS --clamp-mss-to-pmtu")]),
-    (b"-A INPUT -i eth0 -j MARK --set-mark 1", b"-A INPUT -i eth0", [(GONE, b"-j MARK --set-mark 1")]),
-    (b"-A INPUT -j NFLOG", b"-A INPUT", [(GONE, b"-j NFLOG")]),
-    (b"[1:2] -A INPUT -j CONNMARK --save-mark --nfmask 0xff --ctmask 0xff -m comment --comment x",
-     b"[1:2] -A INPUT -m comment --comment x", [(GONE, b"-j CONNMARK --save-mark --nfmask 0xff --ctmask 0xff")]),
-    (b"-A INPUT -j SET --add-set bad src,src --exist", b"-A INPUT", [(GONE, b"-j SET --add-set bad src,src --exist")]),
-    (b"-A INPUT -m limit --limit 5/min -j LOG --log-macdecode --log-prefix x", b"-A INPUT -j LOG --log-prefix x",
-     [(GONE, b"-m limit --limit 5/min"), (GONE, b"--log-macdecode")]),
-    (b"-A INPUT -p tcp -m recent --set --name \"a b\" -m limit", b"-A INPUT -p tcp",
-     [(GONE, b"-m recent --set --name \"a b\""), (GONE, b"-m limit")]),
-    (b"-A INPUT -m mac ! --mac-source 00:00:00:00:00:01", b"-A INPUT", [(GONE, b"-m mac ! --mac-source 00:00:00:00:00:01")]),
-    (b"-A INPUT -m limit --limit-burst 5 -i lo --limit 5/min -j quiet", b"-A INPUT -i lo -j quiet",
-     [(GONE, b"-m limit --limit-burst 5 --limit 5/min")]),
-    (b"-A quiet -m limit -j RETURN", b"-A quiet -j RETURN", [(GONE, b"-m limit")]),
-    (b"-A quiet -m limit -j further", b"-A quiet -j further", [(GONE, b"-m limit")]),
-    (b"-A quiet -m limit -g further", b"-A quiet -g further", [(GONE, b"-m limit")]),
-    (b"-A further -m owner --uid-owner 0 -j LOG", b"-A further -j LOG", [(GONE, b"-m owner --uid-owner 0")]),
-    (b"-A INPUT -p ah --ahspi 5:7 -j LOG", b"-A INPUT -p ah -j LOG", [(GONE, b"--ahspi 5:7")]),
-    (b"-A INPUT " + MANY + b" -i lo -j LOG", b"-A INPUT -i lo -j LOG", [(GONE, b"-m" + each) for each in MANY.split(b" -m")[1:]]),
-    (b"-A INPUT --mat limit --limit-b 5 -j LOG", b"-A INPUT -j LOG",
-     [(OUT, b"--mat limit -> -m limit"), (GONE, b"--mat limit --limit-b 5")]),
-    (b"-A INPUT -p tcp -m conntrack --ctproto tcp -j LOG", b"-A INPUT -p tcp -j LOG", [(GONE, b"-m conntrack --ctproto tcp")]),
-    (b"-A INPUT -p tcp -m conntrack --ctproto tcp --ctstate NEW -j LOG", b"-A INPUT -p tcp -m conntrack --ctstate NEW -j LOG",
-     [(GONE, b"--ctproto tcp")]),
-    (b"-A INPUT -p tcp --tcp-option 2 -j LOG", b"-A INPUT -p tcp -m tcp -j LOG", [(GONE, b"--tcp-option 2 -> -m tcp")]),
-    (b"-A INPUT -p tcp -m tcp ! --tcp-option 2 --dport 5 -j LOG", b"-A INPUT -p tcp -m tcp --dport 5 -j LOG", [(GONE, b"! --tcp-option 2")]),
-    # Matches that bin/fit doesn't know: their words end where an option begins that is known there.
-    (b"-A INPUT -m ndpi --genre Linux --ttl 0 -j LOG", b"-A INPUT -j LOG", [(GONE, b"-m ndpi --genre Linux --ttl 0")]),
-    (b"-A INPUT -m label --label-name \"a b\" ! -s 1.2.3.4", b"-A INPUT ! -s 1.2.3.4", [(GONE, b"-m label --label-name \"a b\"")]),
-    (b"-A INPUT -p tcp -m shape ! --round --dport 5 -j LOG", b"-A INPUT -p tcp --dport 5 -j LOG", [(GONE, b"-m shape ! --round")]),
-    (b"-A INPUT -j LOG -m nothing --log-prefix x", b"-A INPUT -j LOG --log-prefix x", [(GONE, b"-m nothing")]),
-]
+GONE = b"the rule gives no verdict, taken out: "
+QUIET = rows_in("commands/quiet.rows", "><!-")
 # What is taken out of them, in the words of the first line.
 DROPPED = (b"-j TCPMSS", b"-j MARK", b"-j NFLOG", b"-j CONNMARK", b"-j SET", b"-m limit", b"--log-macdecode", b"-m recent", b"-m mac",
            b"-m owner", b"-m ah", b"-m hashlimit", b"-m set", b"-m string", b"-m connlimit", b"-m time", b"-m policy", b"-m statistic",
            b"-m physdev", b"-m connbytes", b"-m addrtype", b"--ctproto", b"--tcp-option", b"-m ndpi", b"-m label", b"-m shape", b"-m nothing")
 # Rules that decide, and the name and text of what is to be assumed.
-LOUD = [
-    (b"-A INPUT -m limit --limit 5/min -j DROP", b"limit", b"-m limit --limit 5/min"),
-    (b"-A INPUT -m limit --limit 6/min -j RETURN", b"limit", b"-m limit --limit 6/min"),
-    (b"-A INPUT -m limit --limit 7/min -g quiet", b"limit", b"-m limit --limit 7/min"),
-    (b"-A INPUT -m limit --limit 8/min -j verdict", b"limit", b"-m limit --limit 8/min"),
-    (b"-A verdict -m limit --limit 9/min -j RETURN", b"limit", b"-m limit --limit 9/min"),
-    (b"-A INPUT -m limit --limit 10/min -j leads", b"limit", b"-m limit --limit 10/min"),
-    (b"-A leads -m limit --limit 11/min -j verdict", b"limit", b"-m limit --limit 11/min"),
-    (b"-A INPUT -m mark ! --mark 1 -j DROP", b"mark", b"-m mark ! --mark 1"),
-    (b"-A INPUT -p tcp -m conntrack --ctproto tcp --ctstate NEW -j DROP", b"conntrack", b"--ctproto tcp"),
-    (b"-A INPUT -m ndpi --genre Linux -j DROP", b"ndpi --genre Linux", b"-m ndpi --genre Linux"),
-    (b"-A INPUT -m nothing -j a", b"nothing", b"-m nothing"),
-]
+LOUD = rows_in("commands/loud.rows", ">=!")
 ASKED = b"'%s=true' or '%s=false'"
 
 
 def quiet_rows():
     """What decides nothing goes, and what decides is asked for."""
     chains = [b"-N further", b"-N leads", b":further -", b":leads -"]
-    lines = chains[2:] + [row[0] for row in QUIET]
-    said = [b"d:%d: %s%s\n" % (FIRST + 2 + at, why, note) for at, row in enumerate(QUIET) for why, note in row[2]]
-    yield Row("rules that decide nothing", ["d"], files(dump(lines)), head([], DROPPED) + dump(chains[2:] + [row[1] for row in QUIET]), 0,
+    lines = chains[2:] + [rule for (rule,), *_ in QUIET]
+    said = [b"d:%d: %s\n" % (FIRST + 2 + at, note) for at, (*_, notes, gone) in enumerate(QUIET) for note in [*notes, *(GONE + words for words in gone)]]
+    yield Row("rules that decide nothing", ["d"], files(dump(lines)), head([], DROPPED) + dump(chains[2:] + [written for _, (written,), *_ in QUIET]), 0,
               b"".join(said))
-    lines = chains[2:] + [row[0] for row in LOUD]
-    said = [b"fit: d:%d: state --assume %s: %s\n" % (FIRST + 2 + at, ASKED % (name, name), text) for at, (_, name, text) in enumerate(LOUD)]
+    lines = chains[2:] + [rule for (rule,), *_ in LOUD]
+    said = [b"fit: d:%d: state --assume %s: %s\n" % (FIRST + 2 + at, ASKED % (name, name), text) for at, (_, (name,), (text,)) in enumerate(LOUD)]
     yield Row("rules that decide", ["d"], files(dump(lines)), b"", 2, b"".join(said))
     # Who sets what is asked; and one line for all that ask the same.
     marked = b" -m mark --mark 1 -j a"
@@ -136,84 +94,8 @@ def quiet_rows():
     yield Row("a missing chain", ["d"], files(dump([b"-A INPUT -m limit -j nowhere"])), b"", 1, missing + limit % FIRST)
 
 
-LIMIT, BURST = b"-m limit --limit 5/min", b"-m limit --limit 9/min --limit-burst 2"
-NOW = b"never matches now: %s -> ! -s 0.0.0.0/0"
-SINCE = b"assumed %s, never matches by ! -s 0.0.0.0/0: %s"
-# Assumptions, a rule, what is written in its place, and what is said; after these the assumptions that weren't needed.
-ASSUMED = [
-    (["limit=true"], b"-p tcp " + LIMIT + b" -j DROP", [b"-p tcp -j DROP"], [b"assumed limit=true, taken out: " + LIMIT], []),
-    (["limit=false"], b"-p tcp " + LIMIT + b" -j DROP", [b"! -s 0.0.0.0/0 -p tcp -j DROP"], [SINCE % (b"limit=false", LIMIT)], []),
-    (["limit=false"], b"-m limit -j DROP", [b"! -s 0.0.0.0/0 -j DROP"], [SINCE % (b"limit=false", b"-m limit")], []),
-    (["limit=false"], b"-p tcp --src 1.2.3.4 " + LIMIT + b" -j DROP", [b"-p tcp ! -s 0.0.0.0/0 -j DROP"],
-     [SINCE % (b"limit=false", LIMIT), NOW % b"--src 1.2.3.4"], []),
-    (["limit=false"], b"! -s 1.2.3.4 " + LIMIT + b" -g a", [b"! -s 0.0.0.0/0 -g a"],
-     [SINCE % (b"limit=false", LIMIT), NOW % b"! -s 1.2.3.4"], []),
-    # The rules that come of lists keep their numbers.
-    (["limit=false"], b"-s 1.1.1.1,2.2.2.2 " + LIMIT + b" -j a", [b"! -s 0.0.0.0/0 -j a"] * 2,
-     [b"address list, a rule for each: -s 1.1.1.1,2.2.2.2 -> -s 1.1.1.1, -s 2.2.2.2", SINCE % (b"limit=false", LIMIT),
-      NOW % b"-s 1.1.1.1,2.2.2.2"], []),
-    (["limit=true"], b"-d 1.1.1.1,2.2.2.2 " + LIMIT + b" -j a", [b"-d 1.1.1.1 -j a", b"-d 2.2.2.2 -j a"],
-     [b"address list, a rule for each: -d 1.1.1.1,2.2.2.2 -> -d 1.1.1.1, -d 2.2.2.2", b"assumed limit=true, taken out: " + LIMIT], []),
-    # The finer one counts, wherever it stands.
-    (["limit=true", "limit --limit 9/min=false"], BURST + b" -j DROP", [b"! -s 0.0.0.0/0 -j DROP"],
-     [SINCE % (b"limit --limit 9/min=false", BURST)], ["limit=true"]),
-    (["limit --limit-burst 2=true", "limit=false"], BURST + b" -j DROP", [b"-j DROP"],
-     [b"assumed limit --limit-burst 2=true, taken out: " + BURST], ["limit=false"]),
-    (["limit --limit-burst 3=true", "limit=false"], BURST + b" -j DROP", [b"! -s 0.0.0.0/0 -j DROP"],
-     [SINCE % (b"limit=false", BURST)], ["limit --limit-burst 3=true"]),
-    (["recent --name \"a b\"=true", "recent --update=false"], b"-m recent --update --name \"a b\" -j DROP", [b"-j DROP"],
-     [b"assumed recent --name \"a b\"=true, taken out: -m recent --update --name \"a b\""], ["recent --update=false"]),
-    (["geoip --source-country DE=true"], b"-m geoip --src-cc DE -j DROP", [b"-j DROP"],
-     [b"assumed geoip --source-country DE=true, taken out: -m geoip --src-cc DE"], []),
-    # With `!` before the option.
-    (["mac=true"], b"-m mac ! --mac-source x -j DROP", [b"! -s 0.0.0.0/0 -j DROP"], [SINCE % (b"mac=true", b"-m mac ! --mac-source x")], []),
-    (["mac=false"], b"-m mac ! --mac-source x -j DROP", [b"-j DROP"], [b"assumed mac=false, taken out: -m mac ! --mac-source x"], []),
-    (["rpfilter=false"], b"-m rpfilter --loose --invert -j DROP", [b"-j DROP"],
-     [b"assumed rpfilter=false, taken out: -m rpfilter --loose --invert"], []),
-    (["rpfilter --loose=true"], b"-m rpfilter --loose --invert -j DROP", [b"! -s 0.0.0.0/0 -j DROP"],
-     [SINCE % (b"rpfilter --loose=true", b"-m rpfilter --loose --invert")], []),
-    (["string=false"], b"-m string --algo bm ! --string GET -j DROP", [b"-j DROP"],
-     [b"assumed string=false, taken out: -m string --algo bm ! --string GET"], []),
-    # Options of one match that ask each for itself.
-    (["addrtype=true"], b"-m addrtype --src-type LOCAL ! --dst-type LOCAL -j DROP", [b"! -s 0.0.0.0/0 -j DROP"],
-     [SINCE % (b"addrtype=true", b"-m addrtype --src-type LOCAL ! --dst-type LOCAL")], []),
-    (["addrtype --src-type LOCAL=true", "addrtype --dst-type=false"],
-     b"-m addrtype --src-type LOCAL ! --dst-type LOCAL -j DROP", [b"-j DROP"],
-     [b"assumed addrtype --src-type LOCAL=true, addrtype --dst-type=false, taken out: -m addrtype --src-type LOCAL ! --dst-type LOCAL"], []),
-    # One that never matches needs no further assumption.
-    (["limit=false"], LIMIT + b" -m owner --uid-owner 0 -j TARPIT --reset", [b"! -s 0.0.0.0/0"],
-     [SINCE % (b"limit=false", LIMIT), b"never matches now, taken out: -m owner --uid-owner 0",
-      b"never matches now, taken out: -j TARPIT --reset"], []),
-    # Options of matches that are known.
-    (["tcp=true"], b"-p tcp --tcp-option 2 -j DROP", [b"-p tcp -m tcp -j DROP"],
-     [b"assumed tcp=true, taken out: --tcp-option 2 -> -m tcp"], []),
-    (["tcp=true"], b"-p tcp --dport ssh ! --tcp-option 2 -j DROP", [b"! -s 0.0.0.0/0 -p tcp --dport 22 -j DROP"],
-     [b"port: --dport ssh -> --dport 22", SINCE % (b"tcp=true", b"! --tcp-option 2")], []),
-    (["conntrack --ctproto=true"], b"-m conntrack --ctproto tcp -j DROP", [b"-j DROP"],
-     [b"assumed conntrack --ctproto=true, taken out: -m conntrack --ctproto tcp"], []),
-    (["limit=true"], b"--mat limit -j DROP", [b"-j DROP"],
-     [b"option written out: --mat limit -> -m limit", b"assumed limit=true, taken out: --mat limit"], []),
-    # Targets.
-    (["TARPIT=DROP"], b"-p tcp -j TARPIT --reset -i lo", [b"-p tcp -j DROP -i lo"],
-     [b"assumed TARPIT=DROP: -j TARPIT --reset -> -j DROP"], []),
-    (["NFQUEUE=ACCEPT", "limit=true"], LIMIT + b" -j NFQUEUE --queue-num 1 --queue-bypass", [b"-j ACCEPT"],
-     [b"assumed limit=true, taken out: " + LIMIT, b"assumed NFQUEUE=ACCEPT: -j NFQUEUE --queue-num 1 --queue-bypass -> -j ACCEPT"], []),
-    (["QUEUE=RETURN"], b"-j QUEUE", [b"-j RETURN"], [b"assumed QUEUE=RETURN: -j QUEUE -> -j RETURN"], []),
-    # Matches that bin/fit doesn't know, by all their words; `!` is one of them.
-    (["ndpi --genre Linux --ttl 0=true"], b"-p tcp -m ndpi --genre Linux --ttl 0 -j DROP", [b"-p tcp -j DROP"],
-     [b"assumed ndpi --genre Linux --ttl 0=true, taken out: -m ndpi --genre Linux --ttl 0"], []),
-    (["label --label-name \"a b\"=false"], b"-m label --label-name \"a b\" -j DROP", [b"! -s 0.0.0.0/0 -j DROP"],
-     [SINCE % (b"label --label-name \"a b\"=false", b"-m label --label-name \"a b\"")], []),
-    (["shape ! --round=true"], b"-m shape ! --round -p tcp -j DROP", [b"-p tcp -j DROP"],
-     [b"assumed shape ! --round=true, taken out: -m shape ! --round"], []),
-    (["nothing=false", "nothing --x=true"], b"-m nothing -j DROP", [b"! -s 0.0.0.0/0 -j DROP"], [SINCE % (b"nothing=false", b"-m nothing")],
-     ["nothing --x=true"]),
-    # A word that looks like an option is its own where the assumption says so.
-    (["odd --sport -s=true"], b"-p tcp -m odd --sport -s -j DROP", [b"-p tcp -j DROP"],
-     [b"assumed odd --sport -s=true, taken out: -m odd --sport -s"], []),
-    # What decides nothing needs none.
-    (["limit=true", "limit=true"], LIMIT + b" -j LOG", [b"-j LOG"], [b"the rule gives no verdict, taken out: " + LIMIT], ["limit=true", "limit=true"]),
-]
+# A rule, what is assumed, what is written in its place, and what is said; after these the assumptions that weren't needed.
+ASSUMED = rows_in("commands/assumed.rows", ">=<!?")
 UNUSABLE = [
     ("limit", " is not MATCH=true, MATCH=false or TARGET=ACCEPT, with a target that bin/fit knows"),
     ("limit=maybe", " is not MATCH=true, MATCH=false or TARGET=ACCEPT, with a target that bin/fit knows"),
@@ -230,17 +112,17 @@ UNUSABLE = [
 
 def assumption_rows():
     """Assumptions that are stated: of all chains, true and false, inverted, finer ones, and those that can't be used."""
-    for place, (stated, rule, written, said, unneeded) in enumerate(ASSUMED):
+    for place, ((rule,), stated, written, said, unneeded) in enumerate(ASSUMED):
         chain = (b"INPUT", b"FORWARD", b"OUTPUT", b"verdict")[place % 4]
         rule = rule.replace(b" -i lo", b" -f")
         written = [b"-A %s %s" % (chain, each.replace(b" -i lo", b" -f")) for each in written]
-        words = [word for each in stated for word in ("--assume", each)]
+        words = [word for each in stated for word in ("--assume", each.decode())]
         said = b"".join(b"d:%d: %s\n" % (FIRST, note) for note in said)
-        said += b"".join(b"fit: --assume '%s' wasn't needed\n" % each.encode() for each in unneeded)
+        said += b"".join(b"fit: --assume '%s' wasn't needed\n" % each for each in unneeded)
         data = dump([b"-A %s %s" % (chain, rule)])
-        used = [each.encode() for each in stated if each not in unneeded]
+        used = [each for each in stated if each not in unneeded]
         first = head(used, [] if used else [b"-m limit"])
-        yield Row(f"{stated} on {rule.decode()}", [*NAMES, *words, "d"], files(data), first + dump(written), 0, said)
+        yield Row(f"{words} on {rule.decode()}", [*NAMES, *words, "d"], files(data), first + dump(written), 0, said)
     missing = b"fit: d:%d: state --assume 'TARPIT=ACCEPT', 'TARPIT=DROP' or 'TARPIT=RETURN': -j TARPIT --reset\n" % FIRST
     yield Row("a target without an assumption", ["d"], files(dump([b"-A INPUT -j TARPIT --reset"])), b"", 2, missing)
     half = b"fit: d:%d: state --assume 'owner=true' or 'owner=false': -m owner --uid-owner 0\n" % FIRST

@@ -3,6 +3,7 @@ run with stand-ins for the programs, which note that they are called and run the
 """
 
 import os
+import pathlib
 import shutil
 import subprocess
 import sys
@@ -34,8 +35,7 @@ class Trial:
 
     def put(self, name, data=b"", when=BUILT):
         os.makedirs(os.path.dirname(self.path(name)), exist_ok=True)
-        with open(self.path(name), "wb") as file:
-            file.write(data)
+        pathlib.Path(self.path(name)).write_bytes(data)
         os.utime(self.path(name), (when, when))
 
     def newer(self, name, seconds=9):
@@ -54,8 +54,7 @@ class Trial:
         environment = {name: value for name, value in os.environ.items() if name not in ("IPTSIM", "IPTAUDIT")}
         self.put("notes")
         ended = subprocess.run(call, cwd=self.folder, env={**environment, **variables}, stdin=subprocess.DEVNULL, capture_output=True, check=False)
-        with open(self.notes, encoding="utf-8") as file:
-            names = sorted(set(file.read().split()))
+        names = sorted(set(pathlib.Path(self.notes).read_text(encoding="utf-8").split()))
         same((status, output, messages, asked), (ended.returncode, ended.stdout, ended.stderr, names))
 
 
@@ -65,8 +64,7 @@ def checkout(iptsim, folder):
     trial = Trial(iptsim.path, folder)
     for name in ("bin", "commands"):
         shutil.copytree(os.path.join(ROOT, name), trial.path(name), ignore=shutil.ignore_patterns("quick", "iptsim", "__pycache__"))
-    with open(os.path.join(ROOT, "crates.txt"), "rb") as file:
-        trial.put("crates.txt", file.read())
+    trial.put("crates.txt", pathlib.Path(os.path.join(ROOT, "crates.txt")).read_bytes())
     for crate in ("iptsim", "fields", "table", "bench"):
         for part in ("src", "specs", "proofs", "must-fail"):
             trial.put(f"crates/{crate}/{part}/inner/file")

@@ -6,6 +6,7 @@ million steps don't do, it says what they leave. A file that isn't restored is p
 """
 
 import os
+import pathlib
 import re
 import subprocess
 import sys
@@ -64,11 +65,9 @@ def cells(words):
 def alike(folder, file):
     """A file of the same ruleset with one rule more, which decides nothing: equal ones would take no step. It is for few packets, since
     those that it matches walk."""
-    with open(file, "rb") as input:
-        head, commit, rest = input.read().rpartition(b"COMMIT")
+    head, commit, rest = pathlib.Path(file).read_bytes().rpartition(b"COMMIT")
     name = os.path.join(folder, "alike")
-    with open(name, "wb") as output:
-        output.write(head + b"-A INPUT -s 192.0.2.7/32 -p udp -m udp --dport 9\n" + commit + rest)
+    pathlib.Path(name).write_bytes(head + b"-A INPUT -s 192.0.2.7/32 -p udp -m udp --dport 9\n" + commit + rest)
     return name
 
 
@@ -87,8 +86,7 @@ def main():
         files = sys.argv[2:]
         for kind in workloads.KINDS if not files else ():
             files.append(os.path.join(folder, kind))
-            with open(files[-1], "w", encoding="ascii") as file:
-                file.write(workloads.restore(workloads.of_kind(kind, 1024)[0]))
+            pathlib.Path(files[-1]).write_text(workloads.restore(workloads.of_kind(kind, 1024)[0]), encoding="ascii")
         for file in files:
             if asked([audit, "dead", "--steps", "0", file])[0] == 2:
                 print(f"steps: {file} isn't restored: passed over", file=sys.stderr)

@@ -20,12 +20,12 @@ shows.
 """
 
 import functools
-import random
 import re
 
 import pytest
 
 from tests.devices.odd_devices import Devices
+from tests.drawn.lots import Lots
 from tests.model import printing
 from tests.model.faults import Fault
 from tests.model.restore import Restore
@@ -177,4 +177,4 @@ def test_cut(part, iptsim, cases):
 def test_damaged(part, iptsim, cases, seed):
     devices = Devices(iptsim.path)
     for play in plays(cases)[1][part::PARTS]:
-        damage(devices, play, random.Random(f"{seed} {play.name}"))
+        damage(devices, play, Lots(f"{seed} {play.name}"))

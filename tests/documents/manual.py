@@ -22,10 +22,11 @@ import pytest
 
 from tests import ROOT
 from tests.shared.followed import follow
+from tests.shared.row_files import rows_in
 from tools.completing.table import read_commands
 
 DOCS = os.path.join(ROOT, "docs")
-SESSION, RESTORE = ["session"], ["restore"]
+SESSION = ["session"]
 RULE = "iptables -A INPUT "
 
 
@@ -33,57 +34,9 @@ def times(count, form):
     return [form % number if "%" in form else form for number in range(count)]
 
 
-# Each code with the words of the program, lines of input, and the number of the line that is refused.
-FAULTS = [
-    ("C1", SESSION, ["iptables -L"], 1),
-    ("C2", SESSION, [RULE + "-j DROP -F"], 1),
-    ("C3", SESSION, ["iptables -N a b"], 1),
-    ("C4", SESSION, ["iptables -t nat -F"], 1),
-    ("P1", SESSION, [RULE + "--proto tcp"], 1),
-    ("P2", SESSION, [RULE + "-s"], 1),
-    ("P3", SESSION, [RULE + "-s 10/8"], 1),
-    ("P4", SESSION, [RULE + "-s 10.0.0.1 -s 10.0.0.2"], 1),
-    ("P4", SESSION, [RULE + "-p tcp -m multiport --sports 1 --ports 2"], 1),
-    ("P4", SESSION, [RULE + "-m ttl --ttl-gt 1 --ttl-lt 5"], 1),
-    ("P5", SESSION, [RULE + "! -j DROP"], 1),
-    ("P6", SESSION, [RULE + "--dport 22"], 1),
-    ("P7", SESSION, [RULE + "-m limit"], 1),
-    ("P8", SESSION, [RULE + "-p tcp" + " -m tcp" * 17], 1),
-    ("P9", SESSION, ["iptables -N a", RULE + "-j a -g a"], 2),
-    ("P10", SESSION, [RULE + "-m comment --comment " + "x" * 257], 1),
-    ("P11", SESSION, [RULE + "-j DROP --reject-with tcp-reset"], 1),
-    ("P12", SESSION, [RULE + "-p tcp -m multiport"], 1),
-    ("P12", SESSION, [RULE + "-m ttl"], 1),
-    ("F1", SESSION, ["packet INPUT colour=red"], 1),
-    ("F2", SESSION, ["packet INPUT src=10.0.0.1"], 1),
-    ("F3", SESSION, ["packet INPUT src=10"], 1),
-    ("F4", SESSION, ["packet INPUT src=10.0.0.1 dst=10.0.0.2 proto=gre out=eth0"], 1),
-    ("S1", SESSION, ["*filter"], 1),
-    ("S2", SESSION, ["iptables-restore"], 1),
-    ("S3", SESSION, ["iptables-restore <<END", "*filter"], 2),
-    ("T1", SESSION, ["iptables -F nowhere"], 1),
-    ("T2", SESSION, ["iptables -N a", "iptables -N a"], 2),
-    ("T3", SESSION, ["iptables -N LOG"], 1),
-    ("T4", SESSION, ["iptables -D INPUT 1"], 1),
-    ("T5", SESSION, ["iptables -C INPUT -j DROP"], 1),
-    ("T6", SESSION, ["iptables -N a", "iptables -A a", "iptables -X a"], 3),
-    ("T7", SESSION, ["iptables -N a", RULE + "-j a", "iptables -X a"], 3),
-    ("T8", SESSION, ["iptables -X INPUT"], 1),
-    ("T9", SESSION, ["iptables -N a", "iptables -P a DROP"], 2),
-    ("T10", SESSION, ["iptables -N a", "iptables -A a -g a"], 2),
-    ("T11", SESSION, [RULE + "-j nowhere"], 1),
-    ("T12", SESSION, [RULE + "-j OUTPUT"], 1),
-    ("T13", SESSION, [RULE + "-o eth0"], 1),
-    ("T14", SESSION, times(8193, RULE), 8193),
-    ("T15", SESSION, times(1025, "iptables -N c%d"), 1025),
-    ("T16", SESSION, ["iptables -P INPUT REJECT"], 1),
-    ("R1", RESTORE, ["-F"], 1),
-    ("R2", RESTORE, ["*filter", ":INPUT"], 2),
-    ("R3", RESTORE, ["*filter", ":a -", ":a -"], 3),
-    ("R4", RESTORE, ["*filter", "-F"], 2),
-    ("R5", SESSION, [RULE + '-m comment --comment "x'], 1),
-    ("R6", SESSION, ["#" + "x" * 10240], 1),
-]
+# Each code with the words of the program, and lines of input, of which the last is refused.
+FAULTS = [(code.decode(), [word.decode()], [line.decode() for line in lines]) for (code,), (word,), lines in rows_in("documents/faults.rows", ">=|")]
+FAULTS += [("T14", SESSION, times(8193, RULE)), ("T15", SESSION, times(1025, "iptables -N c%d"))]
 NO_MEMORY = ("M0", 4)
 
 
@@ -185,11 +138,11 @@ def test_codes():
     assert sorted(code for code, _, _ in PAGE.faults()) == sorted({row[0] for row in FAULTS} | {NO_MEMORY[0]})
 
 
-@pytest.mark.parametrize("code, words, lines, number", FAULTS, ids=[f"{row[0]}: {row[2][-1][:60]}" for row in FAULTS])
-def test_fault(code, words, lines, number, iptsim):
+@pytest.mark.parametrize("code, words, lines", FAULTS, ids=[f"{row[0]}: {row[2][-1][:60]}" for row in FAULTS])
+def test_fault(code, words, lines, iptsim):
     text, status = CODES[code]
     ended = iptsim.run(words, input=session(lines))
-    assert (ended.returncode, ended.stdout.decode(), ended.stderr) == (status, f"line {number}: {code} {text}\n", b"")
+    assert (ended.returncode, ended.stdout.decode(), ended.stderr) == (status, f"line {len(lines)}: {code} {text}\n", b"")
 
 
 def test_no_memory():

@@ -3,6 +3,7 @@ tests of the sample.
 """
 
 import os
+import pathlib
 import re
 import shutil
 import subprocess
@@ -19,8 +20,7 @@ COMMAND = re.compile(r"(?m)^ *(?:run:|-) ((?:iptsim-\w+|iptaudit) .*)$")
 
 @pytest.mark.parametrize("name", ["github.yml", "gitlab.yml"])
 def test_pipeline(name, folder, iptsim, iptaudit):
-    with open(os.path.join(EXAMPLES, name), encoding="utf-8") as file:
-        commands = COMMAND.findall(file.read())
+    commands = COMMAND.findall(pathlib.Path(os.path.join(EXAMPLES, name)).read_text(encoding="utf-8"))
     assert [line.split()[0] for line in commands] == ["iptsim-check", "iptsim-expect", "iptaudit"]
     environment, work = linked(os.path.join(folder, "commands"), iptsim=iptsim.path, iptaudit=iptaudit.path), os.path.join(folder, "work")
     os.mkdir(work)
@@ -29,5 +29,4 @@ def test_pipeline(name, folder, iptsim, iptaudit):
     for line in commands:
         ended = subprocess.run(line, shell=True, cwd=work, env=environment, capture_output=True, check=False)
         assert (line, ended.returncode, ended.stderr) == (line, 0, b"")
-    with open(os.path.join(work, "expect.xml"), encoding="utf-8") as file:
-        assert re.search("<testsuite .*>", file.read()).group() == REPORT
+    assert re.search("<testsuite .*>", pathlib.Path(os.path.join(work, "expect.xml")).read_text(encoding="utf-8")).group() == REPORT

@@ -11,8 +11,9 @@
 Printed with `-first`, `-last` or `-none` after its name, `distinct` and `both` have the packets of one rule alone, or of none.
 """
 
-import random
 import sys
+
+from tests.drawn.lots import Lots
 
 KINDS = ("generated", "distinct", "mixed")
 COMMON_PORTS = (22, 25, 53, 80, 110, 123, 143, 443, 465, 587, 993, 995, 3306, 5432, 8080, 8443)
@@ -119,7 +120,7 @@ def stray(dice):
 
 def of_kind(kind, count):
     """So many rules, and a packet of each, of which every fourth goes somewhere else."""
-    dice = random.Random(7)
+    dice = Lots(7)
     pool = [prefix(dice, length, length) for length in dice.choices((8, 16, 20, 22, 24, 28, 30, 32), k=max(count // 4, 1))]
     known = list(COMMON_PORTS) + [dice.randrange(1024, 65536) for _ in range(80)]
     make = {"generated": lambda place: generated(dice), "distinct": lambda place: distinct(dice, place),
@@ -132,7 +133,7 @@ def of_kind(kind, count):
 
 def hurting(count):
     """Rules made to hurt: each leaves out sixteen ranges of each address, and so cuts two lines at 32 places."""
-    dice, rules = random.Random(3), []
+    dice, rules = Lots(3), []
     for _ in range(count):
         firsts = [dice.getrandbits(32) & ~7 for _ in range(32)]
         ranges = [f"{address(first)}-{address(first | 7)}" for first in firsts]
@@ -173,7 +174,7 @@ def printed(name, count):
     """So many rules of a kind, and packets, as lines of which the first names them."""
     kind, _, match = name.partition("-")
     rules, packets = of_kind(kind, count)
-    dice = random.Random(11)
+    dice = Lots(11)
     if match == "none":
         packets = [stray(dice) for _ in range(1024)]
     elif match:

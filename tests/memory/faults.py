@@ -248,14 +248,8 @@ class Refusals:
         return self.run()[0] == BEFORE_ANY_LINE
 
     def leave_start_out(self):
-        """Finds the last allocation of the program's start, by halves, and begins there."""
-        below, number = 1, 64
-        while self.is_in_start(number):
-            below, number = number, 2 * number
-        while number - below > 1:
-            middle = (below + number) // 2
-            below, number = (middle, number) if self.is_in_start(middle) else (below, middle)
-        self.first = below
+        """Finds the last allocation of the program's start, and begins there."""
+        self.first = max(1, first_not(self.is_in_start) - 1)
 
     def none(self):
         """The run of the case in which nothing is refused."""
@@ -273,6 +267,17 @@ class Refusals:
             number += step
         if not self.refused and any(self.played.due(None, number) != self.due(None) for number in range(1, len(self.played.lines) + 1)):
             differs(f"faults: {self.name}: no allocation was refused")
+
+
+def first_not(holds):
+    """The first number for which something doesn't hold that does for all before it, by halves."""
+    below, number = 0, 64
+    while holds(number):
+        below, number = number, 2 * number
+    while number - below > 1:
+        middle = (below + number) // 2
+        below, number = (middle, number) if holds(middle) else (below, middle)
+    return number
 
 
 def refuse_all(path, plays):
@@ -303,7 +308,8 @@ class Frugal:
         self.before = [b"iptables -N a", b"iptables -N b", b"iptables -A FORWARD -j b"]
         self.before += [b"iptables -A INPUT -s 1.1.1.%d -j DROP" % number for number in range(1, rules + 1)]
         self.place = len(self.before) + 1
-        self.first = self.first_after()
+        # The first allocation after the lines before.
+        self.first = first_not(self.is_before)
 
     def refused_line(self, number, line):
         """The line that is refused, if one is: 0 where none was served."""
@@ -316,16 +322,6 @@ class Frugal:
         """Whether an allocation is taken before the line. Of a late one nothing is refused."""
         refused = self.refused_line(number, b"x")
         return refused is not None and refused < self.place
-
-    def first_after(self):
-        """The first allocation after the lines before, by halves."""
-        below, number = 0, 64
-        while self.is_before(number):
-            below, number = number, 2 * number
-        while number - below > 1:
-            middle = (below + number) // 2
-            below, number = (middle, number) if self.is_before(middle) else (below, middle)
-        return number
 
     def count(self, line):
         """How often a line that comes after them takes memory, whether it says so where that is refused or not."""

@@ -15,6 +15,7 @@ import pytest
 
 from tests import ROOT
 from tests.packaging.parts.terminals import typed
+from tests.shared.row_files import rows_in
 from tests.shared.rows import script, write
 from tools.completing.table import read_commands
 
@@ -23,81 +24,6 @@ BASH = os.path.join(SHARE, "bash-completion", "completions")
 ZSH, FISH_FILES = os.path.join(SHARE, "zsh", "site-functions", "_iptsim"), os.path.join(SHARE, "fish", "vendor_completions.d")
 BASH_COMPLETION = "/usr/share/bash-completion/bash_completion"
 
-# The words of a line, and after `:` what bash offers for the last of them, among the files of the run. Words are parted by `|`. To bash
-# `=` is a word of its own.
-OFFERED = """
-iptsim|: --help|--version|restore|session
-iptsim|s: session
-iptsim|re: restore
-iptsim|-: --help|--version
-iptsim|x:
-iptsim|session|: --help|--load
-iptsim|session|--l: --load
-iptsim|session|--t:
-iptsim|restore|: --help|--load|--noflush|--test
-iptsim|restore|--t: --test
-iptsim|restore|--test|--n: --noflush
-iptsim|restore|--test|--noflush|: --help|--load
-iptsim|restore|--load|other|: --help|--noflush|--test
-iptsim|session|--load|: gates|gateway with blanks|gateway.rules|other
-iptsim|restore|--test|--load|ga: gates|gateway with blanks|gateway.rules
-iptsim|session|--load|gateway.: gateway.rules
-iptsim|session|--load|nothing:
-iptsim|session|--load|=|o: other
-iptsim|session|--load|=: gates|gateway with blanks|gateway.rules|other
-iptsim|boom|--:
-iptsim|--help|:
-iptaudit|: --help|--version|compare|cover|dead|reach|tests|walk
-iptaudit|c: compare|cover
-iptaudit|x:
-iptaudit|dead|: gates|gateway with blanks|gateway.rules|other
-iptaudit|compare|: gates|gateway with blanks|gateway.rules|other
-iptaudit|compare|other|: gates|gateway with blanks|gateway.rules|other
-iptaudit|compare|other|gateway.rules|: --help|--json|--local|--steps|--unknown|--when
-iptaudit|tests|other|: --help|--json|--local|--steps|--unknown|--when
-iptaudit|cover|gateway.: gateway.rules
-iptaudit|dead|nothing:
-iptaudit|dead|--s: --steps
-iptaudit|dead|--steps|:
-iptaudit|dead|--steps|=|:
-iptaudit|dead|--steps|100|: gates|gateway with blanks|gateway.rules|other
-iptaudit|dead|--steps|=|100|: gates|gateway with blanks|gateway.rules|other
-iptaudit|dead|--steps|100|other|: --help|--json|--local|--unknown|--when
-iptaudit|walk|--when|:
-iptaudit|walk|--when|limit|other|: --help|--json|--local|--steps|--unknown|--when
-iptaudit|walk|--unknown|:
-iptaudit|walk|--unknown|colour|other|: --help|--json|--local|--steps|--unknown|--when
-iptaudit|dead|--json|other|: --help|--local|--steps|--unknown|--when
-iptaudit|compare|--steps|100|other|: gates|gateway with blanks|gateway.rules|other
-iptaudit|compare|--steps|=|100|other|other|: --help|--json|--local|--unknown|--when
-iptaudit|reach|: gates|gateway with blanks|gateway.rules|other
-iptaudit|reach|other|F: FORWARD
-iptaudit|reach|other|INPUT|d: dport=|dst=
-iptaudit|reach|--steps|100|other|INPUT|b: by=
-iptaudit|reach|other|INPUT|by|=|:
-iptaudit|reach|other|INPUT|by|=:
-iptaudit|reach|other|INPUT|in|=|eth0|s: sport=|src=
-iptaudit|boom|--:
-iptsim-check|: gates|gateway with blanks|gateway.rules|other
-iptsim-check|other|: gates|gateway with blanks|gateway.rules|other
-iptsim-check|--h: --help
-iptsim-fit|: gates|gateway with blanks|gateway.rules|other
-iptsim-fit|--assume|:
-iptsim-fit|--assume|limit|=|true|--a: --assume
-iptsim-fit|--assume|limit=true|ga: gates|gateway with blanks|gateway.rules
-iptsim-fit|--services|o: other
-iptsim-fit|--services|other|--s:
-iptsim-fit|--protocols|=|o: other
-iptsim-expect|: gates|gateway with blanks|gateway.rules|other
-iptsim-expect|other|gateway.: gateway.rules
-iptsim-expect|other|other|--h: --help
-iptsim-expect|--junit|o: other
-iptsim-check|--session|--load|=|ga: gates|gateway with blanks|gateway.rules
-iptsim-explain|: gates|gateway with blanks|gateway.rules|other
-iptsim-explain|--why-not|gateway.: gateway.rules
-iptsim-explain|other|:
-iptsim-explain|other|--: --help|--json|--why-not
-"""
 # Prints the offers for each row, which come as a row of words.
 ASK_BASH = """
 source "$1"
@@ -180,7 +106,7 @@ def work(shared_folder):
     return shared_folder
 
 
-ROWS = [(words, due.strip()) for words, _, due in (line.rpartition(":") for line in OFFERED.strip().splitlines())]
+ROWS = [(words.decode(), due.decode()) for (words,), (due,) in rows_in("packaging/offered.rows", "><")]
 
 
 @pytest.fixture(scope="module")

@@ -4,6 +4,7 @@ older Python, it isn't configured.
 """
 
 import os
+import pathlib
 import re
 import shutil
 import subprocess
@@ -54,8 +55,7 @@ def field(package, name):
 
 
 def test_version(package):
-    with open(os.path.join(ROOT, "VERSION"), encoding="ascii") as file:
-        version = re.escape(file.read().strip())
+    version = re.escape(pathlib.Path(os.path.join(ROOT, "VERSION")).read_text(encoding="ascii").strip())
     assert re.fullmatch(version + r"(\+changed|\+unversioned)?", field(package, "Version"))
 
 
@@ -84,8 +84,7 @@ def new_root(root, library, python):
     texts = {"arch": "amd64\n", "info/libc6.list": "", "info/python3.list": "",
              "status": STATUS.format(name="libc6", version=library) + STATUS.format(name="python3", version=python)}
     for name, text in texts.items():
-        with open(os.path.join(root, "var/lib/dpkg", name), "w", encoding="ascii") as file:
-            file.write(text)
+        pathlib.Path(os.path.join(root, "var/lib/dpkg", name)).write_text(text, encoding="ascii")
 
 
 def dpkg(root, *words):
@@ -117,8 +116,7 @@ def pythons(root):
     """What the starters of commands run."""
     starters, found = os.path.join(root, "usr", "lib", "iptsim", "bin"), set()
     for name in os.listdir(starters):
-        with open(os.path.join(starters, name), "rb") as file:
-            found |= set(re.findall(rb"\bexec (\S+)", file.read()))
+        found |= set(re.findall(rb"\bexec (\S+)", pathlib.Path(os.path.join(starters, name)).read_bytes()))
     return b" ".join(sorted(found))
 
 

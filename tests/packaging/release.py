@@ -6,6 +6,7 @@ where it needs the C library alone, and refused where it doesn't.
 import hashlib
 import io
 import os
+import pathlib
 import re
 import shutil
 import subprocess
@@ -83,8 +84,7 @@ class Copy:
         for name, text in (("iptsim", IPTSIM), ("iptaudit", IPTAUDIT)):
             script(os.path.join(self.stand_ins, name), text.format(version=self.version, program=self.program))
         self.page = os.path.join(self.stand_ins, "a page")
-        with open(self.page, "w", encoding="utf-8") as file:
-            file.write("<!doctype html>\n")
+        pathlib.Path(self.page).write_text("<!doctype html>\n", encoding="utf-8")
         self.environment = {name: value for name, value in os.environ.items() if name not in ("IPTSIM", "IPTAUDIT")}
         self.environment.update(PATH=f"{self.tools}:{os.environ['PATH']}", STAND_INS=self.stand_ins, IPTSIM_PAGE=self.page)
 
@@ -161,10 +161,8 @@ def check_layout(copy, held):
                           ("share/doc/iptsim/CHANGELOG.md", "CHANGELOG.md"), ("share/doc/iptsim/LICENSE", "LICENSE"),
                           ("share/doc/iptsim/examples/office.rules", "examples/office.rules"), ("install", "share/package/install"),
                           ("share/zsh/site-functions/_iptsim", "share/zsh/site-functions/_iptsim")):
-        with open(os.path.join(ROOT, source), "rb") as file:
-            same((0, file.read()), (0, held[place][1]), place)
-    with open(copy.page, "rb") as file:
-        same((0, file.read()), (0, held["share/doc/iptsim/iptsim.html"][1]), "the page")
+        same((0, pathlib.Path(os.path.join(ROOT, source)).read_bytes()), (0, held[place][1]), place)
+    same((0, pathlib.Path(copy.page).read_bytes()), (0, held["share/doc/iptsim/iptsim.html"][1]), "the page")
     same((0, b"share/doc/iptsim/iptsim.html"), (0, held["iptsim.html"][0].linkname.encode()), "the page at the top")
     documents = [(place, text.decode()) for place, (_, text) in held.items() if place.endswith(".md")]
     links = [(place, target) for place, text in documents for target in re.findall(r"\]\(([^)#]+)", text) if ":" not in target]
@@ -250,8 +248,7 @@ def test_versions(copy, folder, committed):
 def test_places(copy, committed):
     """Programs that have their version in two places, or in none, or don't print what stands there."""
     whole, version = os.path.join(copy.stand_ins, "iptsim"), copy.version
-    with open(whole, encoding="utf-8") as file:
-        text = file.read()
+    text = pathlib.Path(whole).read_text(encoding="utf-8")
     place = f"release: the program iptsim has the text '{version} (not released)' in %d places, and not in one\n"
     for other, messages in (
             (text + f"# {version} (not released)\n", place % 2),

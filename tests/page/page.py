@@ -16,6 +16,7 @@ import base64
 import concurrent.futures
 import json
 import os
+import pathlib
 import shutil
 import subprocess
 import tempfile
@@ -70,8 +71,7 @@ pub extern "C" fn room(alloc: Global, bytes: usize) -> usize {
 
 
 def read(path):
-    with open(path, encoding="utf-8") as file:
-        return file.read()
+    return pathlib.Path(path).read_text(encoding="utf-8")
 
 
 def dumps():
@@ -92,8 +92,7 @@ def page(proved):
 @pytest.fixture(scope="module")
 def page_path(page, shared_folder):
     path = os.path.join(shared_folder, "iptsim.html")
-    with open(path, "w", encoding="utf-8") as file:
-        file.write(page)
+    pathlib.Path(path).write_text(page, encoding="utf-8")
     return path
 
 
@@ -178,8 +177,7 @@ def machine_trial(kit, sources, work):
     tried, made = os.path.join(work, "trial.o"), os.path.join(work, "trial.wasm")
     call([kit.part("toolchain", "bin", "clang"), *COMPILING, *OWN, "-c", os.path.join(WEB, "trials", "machine.c"), "-o", tried])
     linked(kit, [tried, *machine(kit, sources, work)[:2]], made)
-    with open(made, "rb") as file:
-        data = base64.b64encode(file.read()).decode()
+    data = base64.b64encode(pathlib.Path(made).read_bytes()).decode()
     return f"""(() => {{
         {read(os.path.join(WEB, "trials", "machine.js"))}
         const bytes = Uint8Array.from(atob("{data}"), (letter) => letter.charCodeAt(0));
@@ -225,8 +223,7 @@ def test_own_way(folder):
     """The toolchain refuses to link a heap into WebAssembly: when it doesn't, tools/page can take its own way."""
     kit = Kit()
     os.mkdir(os.path.join(folder, "src"))
-    with open(os.path.join(folder, "src", "lib.rt"), "w", encoding="utf-8") as file:
-        file.write(ROOM)
+    pathlib.Path(os.path.join(folder, "src", "lib.rt")).write_text(ROOM, encoding="utf-8")
     ended = subprocess.run([kit.part("bin", "rattle"), "build", "--crate-name", "room", "--crate-type", "staticlib", "--target",
                             "wasm64-unknown-unknown", "src/lib.rt", "--extern", f"std={kit.part('rlibs', 'std.rlib')}", "-L",
                             f"dependency={kit.part('rlibs')}", "--antt-project", kit.part("rattle", "logic", "antt-project.json"),

@@ -29,8 +29,7 @@ fi
 """
 CRATES = {
     "iptsim": "fields rules bits classify table restore sessions programs iptsim".split(),
-    "iptaudit": "fields notation rules bits classify table questions restore sessions programs dumps findings inputs audits reports documents answers "
-                "iptaudit".split(),
+    "iptaudit": "fields notation rules bits classify table questions restore sessions programs dumps rulesets audits reports iptaudit".split(),
 }
 RUNS = {"iptsim": "iptsim: run -- session", "iptaudit": "iptaudit: run -- dead /dev/null"}
 TAKES = """iptsim: the program is proved and built first: from nothing, some 40 minutes of one core on an idle machine, up to 70 on a slow one

@@ -18,6 +18,7 @@ further-edits/MODULE.edits has the edits of the functions in src/MODULE.rt, by t
 
 import dataclasses
 import os
+import pathlib
 import re
 
 HEADING = re.compile(r"^# (\w+)$", re.M)
@@ -59,19 +60,18 @@ class Edit:
         return "".join(f"{line}\n" for line in lines)
 
 
+def read(path):
+    return pathlib.Path(path).read_text(encoding="utf-8")
+
+
 def paths_below(folder, part):
     """The paths of all files in a part of a crate's folder, in order."""
-    found = [f"{at}/{name}" for at, _, names in os.walk(f"{folder}/{part}") for name in names]
-    return sorted(os.path.relpath(path, folder) for path in found)
+    return sorted(str(path.relative_to(folder)) for path in pathlib.Path(folder, part).rglob("*") if path.is_file())
 
 
 def sources(folder):
     """The texts of the files in a crate's src/ and specs/, by their paths in the crate's folder."""
-    texts = {}
-    for path in (path for part in ("src", "specs") for path in paths_below(folder, part)):
-        with open(f"{folder}/{path}", encoding="utf-8") as file:
-            texts[path] = file.read()
-    return texts
+    return {path: read(f"{folder}/{path}") for part in ("src", "specs") for path in paths_below(folder, part)}
 
 
 def named_file(function, texts):
@@ -115,8 +115,7 @@ def read_lines(name, lines, file):
 
 def read_edit(path):
     """The edit of a file of must-fail/. Other comments, and what is wrong with it, are for `rt must-fail`."""
-    with open(path, encoding="utf-8") as file:
-        lines = FOR_SCRIPTS.sub("", file.read()).split("\n")
+    lines = FOR_SCRIPTS.sub("", read(path)).split("\n")
     return read_lines(os.path.basename(path).removesuffix(".edit"), list(enumerate(lines, 1)), "")[0]
 
 
@@ -169,8 +168,7 @@ def edits_of(top, crate):
             places[found[-1].name] = path
     texts = sources(folder)
     for path in paths_below(folder, "further-edits"):
-        with open(f"{folder}/{path}", encoding="utf-8") as file:
-            edits, wrong = read_module(path, file.read(), texts)
+        edits, wrong = read_module(path, read(f"{folder}/{path}"), texts)
         for number, edit in edits:
             if edit.name in places:
                 wrong.append((number, f"{edit.name} stands in {places[edit.name]}, too"))

@@ -19,7 +19,9 @@ import sys
 import tempfile
 from concurrent.futures import ThreadPoolExecutor
 
-from tools import ROOT
+from commands.crates import crates_of, uses_of
+from tools import ROOT, parser
+from tools.crates.copies import copy_sources
 from tools.crates.edit_files import Edit, Malformed, edits_of, named_file, sources
 
 PARTS = ("src", "specs", "proofs")
@@ -33,27 +35,6 @@ FINISHED = re.compile(r"^(only|logic)=", re.M)
 REFUSED, MISSED, BLOCKED, UNSURE = "refused", "NOT REFUSED", "NOT TRIED: a function that it calls isn't proved", "NOT TRIED"
 # What the prover says of a proof that names what an edit took away.
 LOST_NAMES = re.compile(r"has no field|is not in scope|has no `|was not admitted")
-
-
-def deps_of():
-    """Returns the crates of crates.txt, each with what it stands on."""
-    deps = {}
-    with open(f"{ROOT}/crates.txt", encoding="utf-8") as it:
-        for line in it:
-            name, _, rest = line.partition("#")[0].partition(":")
-            if name.strip():
-                deps[name.split()[0]] = rest.split()
-    return deps
-
-
-def below_of(crate, deps):
-    """Returns the crates of the repository that a crate stands on."""
-    found, left = set(), [crate]
-    while left:
-        more = set(deps[left.pop()]) & set(deps) - found
-        found |= more
-        left += more
-    return sorted(found)
 
 
 def sum_of(crate, deps, toolchain):
@@ -81,14 +62,11 @@ def link(source, target):
 class Bench:
     """A crate on a copy of the repository, proved as it stands, and edited there in rounds."""
 
-    def __init__(self, crate, deps, room):
+    def __init__(self, crate, room):
         self.crate, self.folder, self.seed = crate, f"{room}/{crate}/crates/{crate}", f"{room}/{crate}/seed"
-        skip = shutil.ignore_patterns("out")
-        shutil.copytree(f"{ROOT}/crates", f"{room}/{crate}/crates", ignore=skip)
-        for name in ("crates.txt", "HANDLES"):
-            shutil.copy(f"{ROOT}/{name}", f"{room}/{crate}/{name}")
+        copy_sources(f"{room}/{crate}")
         # (what was proved of the crates below is taken over)
-        for below in below_of(crate, deps):
+        for below in crates_of(ROOT, crate) - {crate}:
             if os.path.isdir(f"{ROOT}/crates/{below}/out"):
                 shutil.copytree(f"{ROOT}/crates/{below}/out", f"{room}/{crate}/crates/{below}/out", copy_function=link)
         os.mkdir(f"{room}/{crate}/.git")
@@ -265,7 +243,7 @@ def lanes():
     return max(1, min(len(os.sched_getaffinity(0)), free // CHECK_KIB))
 
 
-def try_crate(crate, edits, deps, total, room):
+def try_crate(crate, edits, total, room):
     """Tries the edits of a crate that aren't known to be refused, and returns how many were refused and how many weren't."""
     kept = f"{ROOT}/crates/{crate}/out/refused-edits"
     sums = {it: hashlib.sha256((total + it.name + it.text()).encode()).hexdigest() for it in edits}
@@ -287,7 +265,7 @@ def try_crate(crate, edits, deps, total, room):
             failed.append(edit)
 
     if left:
-        bench = Bench(crate, deps, room)
+        bench = Bench(crate, room)
         why = bench.prove()
         if why:
             print(f"edits: {why}", flush=True)
@@ -302,8 +280,10 @@ def try_crate(crate, edits, deps, total, room):
     return len(edits) - len(failed), len(failed)
 
 
-def main(names):
-    deps = deps_of()
+def main():
+    words = parser("edits", __doc__)
+    words.add_argument("crates", metavar="CRATE", nargs="*")
+    names, deps = words.parse_args().crates, uses_of(ROOT)
     try:
         edits = {it: edits_of(ROOT, it) for it in deps}
     except Malformed as trouble:
@@ -315,7 +295,7 @@ def main(names):
     crates = sorted(names or every, key=lambda it: -len(edits[it]))
     toolchain = subprocess.run(["rt", "version"], stdout=subprocess.PIPE, text=True, check=True).stdout
     with tempfile.TemporaryDirectory(prefix="edits-") as room, ThreadPoolExecutor(lanes()) as pool:
-        runs = [pool.submit(try_crate, it, edits[it], deps, sum_of(it, deps, toolchain), room) for it in crates]
+        runs = [pool.submit(try_crate, it, edits[it], sum_of(it, deps, toolchain), room) for it in crates]
         results = [it.result() for it in runs]
     refused, others = (sum(column) for column in zip(*results))
     print(f"edits: {refused} of {refused + others} edits of {len(crates)} crates were refused")
@@ -323,4 +303,4 @@ def main(names):
 
 
 if __name__ == "__main__":
-    sys.exit(main(sys.argv[1:]))
+    sys.exit(main())

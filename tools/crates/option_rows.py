@@ -1,8 +1,12 @@
-"""The rows of the crate dumps, as a file of its sources, by the table of options."""
+"""tools/rows: writes the rows of the crate dumps, its options, matches and targets, by the table in commands/options.table. tools/sources checks
+that they are what this writes.
+"""
 
-import os
+import pathlib
+import sys
 
 from commands.extensions import EXTENSIONS, is_known
+from tools import ROOT, parser
 
 PLACE = "crates/dumps/src/options/rows.rt"
 FORM = """\
@@ -64,8 +68,14 @@ def written():
 
 def is_written(root):
     """Whether the file is there, with this text."""
-    path = os.path.join(root, PLACE)
-    if not os.path.exists(path):
-        return False
-    with open(path, encoding="utf-8") as file:
-        return file.read() == written()
+    path = pathlib.Path(root, PLACE)
+    return path.exists() and path.read_text(encoding="utf-8") == written()
+
+
+def main():
+    parser("rows", __doc__).parse_args()
+    pathlib.Path(ROOT, PLACE).write_text(written(), encoding="utf-8")
+
+
+if __name__ == "__main__":
+    sys.exit(main())

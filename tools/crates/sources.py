@@ -15,7 +15,7 @@ import pathlib
 import re
 import sys
 
-from tools import ROOT
+from tools import ROOT, parser
 from tools.crates.option_rows import PLACE, is_written
 
 CRATES = pathlib.Path(ROOT, "crates")
@@ -80,6 +80,7 @@ def problems():
         yield f"{PLACE} isn't as tools/rows writes it"
 
 
+parser("sources", __doc__).parse_args()
 found = list(problems())
 for problem in found:
     print("sources: " + problem, file=sys.stderr)

@@ -24,46 +24,47 @@ The check looks for
 Faults of each kind are planted: they have to be found, or the check itself is at fault.
 
 It prints each fault with its file and line, and last how many there are, and ends with status 1 where there are any. `.ci/run` calls it. Where
-hunspell isn't installed it says that spelling is passed over.
+hunspell isn't installed it says that spelling is passed over, and without markdown-it all but comments and length.
 """
 
 import os
 import sys
 
-from tools.documenting import comments, counts, layout, length, links, names, places, planting, prose, reply, spelling, tree
+from tools import parser
+from tools.documenting import comments, counts, layout, length, links, markdown, names, places, planting, prose, reply, spelling, tree
 from tools.documenting.pages import PAGES
 
 CHECKS = (links, places, layout, reply, names, counts, comments, length, spelling, prose)
 
 
 def check():
-    found = [fault for module in CHECKS for fault in module.faults()]
-    found += planting.faults(CHECKS)
+    checks = CHECKS if markdown.MarkdownIt else (comments, length)
+    found = [fault for module in checks for fault in module.faults()]
+    if markdown.MarkdownIt:
+        found += planting.faults(CHECKS)
+    else:
+        print("documents: markdown-it isn't there, so all but comments and length is passed over", file=sys.stderr)
     for fault in found:
         print(fault)
     print(f"documents: {len(found)} faults")
     return 1 if found else 0
 
 
-def main(words):
-    if not words:
+def main():
+    reader = parser("documents", __doc__)
+    reader.add_argument("page", metavar="PAGE", nargs="?", choices=PAGES)
+    reader.add_argument("words", metavar="WORD", nargs="*")
+    given = reader.parse_args()
+    if not given.page:
         return check()
-    if words[0] in ("-h", "--help"):
-        print(__doc__.strip())
-        return 0
-    if words[0] not in PAGES:
-        print(f"documents: no page is called {words[0]}: {', '.join(PAGES)}", file=sys.stderr)
-        return 2
-    show, has_crates = PAGES[words[0]]
-    unknown = [word for word in words[1:] if has_crates and word not in tree.crates()]
-    if unknown or has_crates and not words[1:]:
-        print(f"documents: crates are {', '.join(tree.crates())}", file=sys.stderr)
-        return 2
-    show(words[1:])
+    show, has_crates = PAGES[given.page]
+    if has_crates and not (given.words and set(given.words) <= set(tree.crates())):
+        reader.error(f"crates are {', '.join(tree.crates())}")
+    show(given.words)
     return 0
 
 
 try:
-    sys.exit(main(sys.argv[1:]))
+    sys.exit(main())
 except BrokenPipeError:
     os.dup2(os.open(os.devnull, os.O_WRONLY), 1)

@@ -19,7 +19,7 @@ def shown(block):
     found, outer = {}, []
     for number, line in block:
         names = re.split(" {2,}", line.strip())[0].split(", ")
-        del outer[(len(line) - len(line.lstrip())) // 2 - 2:]
+        del outer[(len(line) - len(line.lstrip())) // 2:]
         found.update({"/".join([*outer, name]): number for name in names})
         outer.append(names[-1])
     return found

@@ -1,83 +1,81 @@
-"""The Markdown documents, line by line: their prose without code, the names in backquotes, links and headings."""
+"""The Markdown documents, by markdown-it: their prose without code, the names in backquotes, links and headings."""
 
 import functools
 import re
 
 from tools.documenting import tree
 
-QUOTED = re.compile(r"`([^`]+)`")
-LINK = re.compile(r"\]\(([^)\s]+)\)")
-LISTED = re.compile(r"^\s*(?:[-*]|\d+\.) ")
+try:
+    from markdown_it import MarkdownIt
+except ImportError:
+    MarkdownIt = None
 
 
 def documents():
     return tree.files(".md")
 
 
+@functools.lru_cache(maxsize=None)
+def tokens_of(text):
+    return tuple(MarkdownIt("commonmark").enable("table").parse(text))
+
+
+def tokens(path):
+    return tokens_of(tree.text(path))
+
+
+def lines_of(path, *kinds):
+    """The lines, counted from 0, of a document's parts of some kinds."""
+    return {line for token in tokens(path) if token.type in kinds for line in range(*token.map)}
+
+
 def prose(path):
     """The lines of a document that aren't code, each with its number."""
-    return prose_of(tree.text(path))
-
-
-@functools.lru_cache(maxsize=None)
-def prose_of(text):
-    found, fenced, code, before, in_list = [], False, False, "", False
-    for number, line in enumerate(text.splitlines(), 1):
-        if line.startswith("```"):
-            fenced = not fenced
-            continue
-        if not line.strip():
-            code = code and line == ""
-        elif LISTED.match(line):
-            in_list, code = True, False
-        elif not line.startswith(" "):
-            in_list, code = False, False
-        elif line.startswith("    ") and not in_list and (not before or code):
-            code = True
-        if not fenced and not (code and line.startswith("    ")):
-            found.append((number, line))
-        before = line.strip()
-    return tuple(found)
+    code = lines_of(path, "fence", "code_block")
+    return [(number, line) for number, line in enumerate(tree.lines(path), 1) if number - 1 not in code]
 
 
 def code_blocks(path):
-    """The blocks of a document that are code by their indentation: their lines, each with its number."""
-    numbers = {number for number, _ in prose(path)}
-    blocks, before = [], 0
-    for number, line in enumerate(tree.lines(path), 1):
-        if number in numbers or not line.startswith("    "):
-            continue
-        if number != before + 1:
-            blocks.append([])
-        blocks[-1].append((number, line))
-        before = number
-    return blocks
+    """The blocks of a document that are code by their indentation: their lines without it, each with its number."""
+    return [[*enumerate(token.content.splitlines(), token.map[0] + 1)] for token in tokens(path) if token.type == "code_block"]
+
+
+def texts(path, kind):
+    """The texts of a kind, of paragraphs or of headings, outside of quotes: of each the number of its line, and its pieces."""
+    cited = lines_of(path, "blockquote_open")
+    for opening, text in zip(tokens(path), tokens(path)[1:]):
+        if opening.type == f"{kind}_open" and opening.map[0] not in cited:
+            yield text.map[0] + 1, text.children
+
+
+def pieces(path):
+    """The pieces of all texts of a document, each with the number of its line."""
+    for token in tokens(path):
+        number = token.map[0] + 1 if token.type == "inline" else 0
+        for piece in token.children or ():
+            number += piece.type in ("softbreak", "hardbreak")
+            yield number, piece
 
 
 def quoted(path):
     """The names in backquotes, each with the number of its line."""
-    for number, line in prose(path):
-        for name in QUOTED.findall(line):
-            yield number, name
+    return [(number, piece.content) for number, piece in pieces(path) if piece.type == "code_inline"]
 
 
 def links(path):
-    """The targets of links, each with the number of its line."""
-    for number, line in prose(path):
-        for target in LINK.findall(QUOTED.sub("", line)):
-            yield number, target
+    """The targets of links and the sources of images, each with the number of its line."""
+    return [(number, piece.attrs.get("href") or piece.attrs["src"]) for number, piece in pieces(path) if piece.type in ("link_open", "image")]
 
 
 @functools.lru_cache(maxsize=None)
 def anchors(path):
     """The anchors of a document's headings, as forges make them."""
     found = set()
-    for _, line in prose(path):
-        if re.match(r"^#{1,6} ", line):
-            text = re.sub(r"[^\w\- ]", "", line.lstrip("#").strip().lower().replace("`", "")).replace(" ", "-")
-            name, number = text, 0
-            while name in found:
-                number += 1
-                name = f"{text}-{number}"
-            found.add(name)
+    for _, heading in texts(path, "heading"):
+        text = re.sub(r"[^\w\- ]", "", "".join(piece.content for piece in heading).strip().lower()).replace(" ", "-")
+        name, number = text, 0
+        while name in found:
+            number += 1
+            name = f"{text}-{number}"
+        found.add(name)
     return found

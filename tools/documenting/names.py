@@ -2,6 +2,7 @@
 
 import functools
 import os
+import pathlib
 import re
 
 from tools.documenting import markdown, tree
@@ -20,12 +21,8 @@ CODE = (".rt", ".antt", ".py", ".sh", ".c", ".cases", ".edit", ".edits", "crates
 @functools.lru_cache(maxsize=None)
 def all_paths():
     """Every file and folder."""
-    found = set(tree.all_files())
-    for path in tree.all_files():
-        while os.path.dirname(path):
-            path = os.path.dirname(path)
-            found.add(path)
-    return found
+    folders_above = (str(folder) for path in tree.all_files() for folder in pathlib.PurePath(path).parents)
+    return {*tree.all_files(), *folders_above} - {"."}
 
 
 @functools.lru_cache(maxsize=None)

@@ -14,10 +14,11 @@ DOCUMENT = "CONTRIBUTING.md"
 HEADING = "## What a new option or match touches"
 ROW = re.compile(r"^\| (?:`(?P<folder>[\w./]+)`)?[^|]*\| (?P<where>[^|]*`[^|]*)\|$")
 BRACKETS = re.compile(r"\([^)]*\)")
+QUOTED = re.compile(r"`([^`]+)`")
 # Neither a part of another word, as in `throttle` and `--rttl`, nor a name of types of ICMP.
 NAMED = re.compile(r"(?<![A-Za-z])(?:ttl|TTL)(?!-exceeded|-zero|[A-Za-z])|Ttl(?![a-z])|TimeToLive|times?[_ ]to[_ ]live")
 # What names it and is no place: the table itself, this check with the faults that are planted for it, and a case named by its title.
-APART = (DOCUMENT, "tools/documenting/places.py", "tools/documenting/planting.py", "tools/bugs.py")
+APART = (DOCUMENT, "tools/documenting/places.py", "tools/documenting/planting.py", "tools/crates/bugs.diff")
 
 
 def rows():
@@ -29,7 +30,7 @@ def rows():
         found = ROW.match(line) if is_within else None
         if found:
             folder = found["folder"] or folder
-            paths = markdown.QUOTED.findall(BRACKETS.sub("", found["where"]))
+            paths = QUOTED.findall(BRACKETS.sub("", found["where"]))
             yield number, [f"{folder}/{path}".removeprefix("./") for path in paths]
 
 

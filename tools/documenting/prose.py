@@ -23,29 +23,15 @@ PHRASES = {
 }
 PHRASE = re.compile("|".join(rf"\b(?:{phrase})\b" for phrase in PHRASES), re.IGNORECASE)
 CODE = re.compile(r"`[^`]*`")
-
-
-def paragraphs(path):
-    """The paragraphs and list items of a document, each with the number of its first line; tables, headings and quotes are none."""
-    start, parts = 0, []
-    for number, line in (*markdown.prose(path), (0, "")):
-        ends = not line.strip() or line.startswith(("|", "#", ">"))
-        if parts and (ends or markdown.LISTED.match(line)):
-            yield start, " ".join(parts)
-            parts = []
-        if not ends:
-            start = number if not parts else start
-            parts.append(markdown.LISTED.sub("", line).strip())
-
-
-def sentences(text):
-    return re.split(r"(?<=[.!?:;])\s+", CODE.sub("X", text))
+# What stands for pieces of a paragraph that aren't text.
+BREAKS = {"softbreak": " ", "hardbreak": " ", "code_inline": "X"}
 
 
 def of_sentences():
     for path in markdown.documents():
-        for number, text in paragraphs(path):
-            for sentence in sentences(text):
+        for number, pieces in markdown.texts(path, "paragraph"):
+            text = "".join(BREAKS.get(piece.type, piece.content) for piece in pieces)
+            for sentence in re.split(r"(?<=[.!?:;])\s+", text):
                 count = len(sentence.split())
                 if count > LONGEST:
                     yield f"{path}:{number}: a sentence of {count} words, and at most {LONGEST} may be: {sentence[:60]}.."

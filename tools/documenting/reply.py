@@ -10,6 +10,6 @@ REPLY = "crates/iptsim/stdout"
 
 
 def faults():
-    command, reply = ([line.removeprefix("    ") for _, line in block] for block in [*markdown.code_blocks(DOCUMENT), [], []][:2])
+    command, reply = ([line for _, line in block] for block in [*markdown.code_blocks(DOCUMENT), [], []][:2])
     found = [] if command == [COMMAND] else [f"{DOCUMENT}: the first command isn't {COMMAND}"]
     return found if reply == tree.lines(REPLY) else [*found, f"{DOCUMENT}: the reply to the first command isn't that of {REPLY}"]

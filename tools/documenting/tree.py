@@ -1,10 +1,12 @@
 """The repository as files: which there are, their text, and the crates in the order in which they stand on one another."""
 
 import functools
+import graphlib
 import os
 import shutil
 import subprocess
 
+from commands.crates import uses_of
 from tools import ROOT
 
 # What is built, or isn't the repository's.
@@ -65,23 +67,13 @@ def lines(path):
     return text(path).splitlines()
 
 
+@functools.lru_cache(maxsize=None)
 def uses():
     """On which crates of the repository each stands."""
-    listed = dict(line.strip().split(":", 1) for line in lines("crates.txt") if ":" in line and not line.startswith("#"))
-    return {crate: [below for below in words.split() if below in listed] for crate, words in listed.items()}
+    listed = uses_of(ROOT)
+    return {crate: [below for below in named if below in listed] for crate, named in listed.items()}
 
 
 def crates():
     """The crates, each after those on which it stands."""
-    placed, stands_on = [], uses()
-
-    def place(crate):
-        for below in stands_on[crate]:
-            if below not in placed:
-                place(below)
-        if crate not in placed:
-            placed.append(crate)
-
-    for crate in stands_on:
-        place(crate)
-    return placed
+    return list(graphlib.TopologicalSorter(uses()).static_order())

@@ -5,8 +5,9 @@ import hashlib
 import io
 import os
 import tarfile
+import tempfile
 
-from tools.packing.folder import folders
+from tools.packing.folder import write
 from tools.packing.layout import Entry, Link, PAGE, entry
 
 ORIGINS = {
@@ -46,28 +47,14 @@ def archived(root, contents):
     return [*entries, Entry("SHA256SUMS", 0o644, checksums(entries))]
 
 
-def tar_member(top, each, seconds):
-    member = tarfile.TarInfo(f"{top}/{each.place}")
-    member.mtime = seconds
-    if isinstance(each, Link):
-        member.type, member.linkname, member.mode = tarfile.SYMTYPE, each.target, 0o777
-    else:
-        member.mode, member.size = each.mode, len(each.data)
-    return member
-
-
-def tar_folder(name, seconds):
-    member = tarfile.TarInfo(name)
-    member.type, member.mode, member.mtime = tarfile.DIRTYPE, 0o755, seconds
-    return member
-
-
 def tar(top, seconds, entries):
     """The bytes of the archive: equal for equal files, whoever makes it, and when."""
+    def told(member):
+        member.mtime, member.uid, member.gid, member.uname, member.gname = seconds, 0, 0, "", ""
+        return member
+
     packed = io.BytesIO()
-    with tarfile.open(fileobj=packed, mode="w", format=tarfile.USTAR_FORMAT) as file:
-        for folder in [top, *(f"{top}/{folder}" for folder in folders(entries))]:
-            file.addfile(tar_folder(folder, seconds))
-        for each in entries:
-            file.addfile(tar_member(top, each, seconds), None if isinstance(each, Link) else io.BytesIO(each.data))
+    with tempfile.TemporaryDirectory() as folder, tarfile.open(fileobj=packed, mode="w", format=tarfile.USTAR_FORMAT) as file:
+        write(folder, entries)
+        file.add(folder, top, filter=told)
     return gzip.compress(packed.getvalue(), 9, mtime=0)

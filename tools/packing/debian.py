@@ -80,8 +80,6 @@ def package(root, contents):
         return None
     with tempfile.TemporaryDirectory() as work:
         folder, made = os.path.join(work, "package"), os.path.join(work, "made.deb")
-        os.mkdir(folder)
-        os.chmod(folder, 0o755)
         write(folder, files(root, contents))
         # No file of the package is newer than the commit. With another number of threads xz writes other bytes.
         fixed = dict(os.environ, SOURCE_DATE_EPOCH=str(contents.version.seconds), DPKG_DEB_THREADS_MAX="1")

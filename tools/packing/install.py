@@ -19,6 +19,9 @@ from tools.packing.programs import note
 
 
 def main(words):
+    if "--help" in words or "-h" in words:
+        print(__doc__.strip())
+        return 0
     try:
         contents = gather(ROOT)
     except (Failure, OSError) as failure:

@@ -26,9 +26,8 @@ def find_page(root, version):
         note(f"without a page, which isn't made of a program that {' or '.join(given)} names; {VARIABLE} can name one")
         return None
     # It needs the toolchain.
-    from tools.paging import Failure as PagingFailure
     from tools.paging.made import make_page
     try:
         return make_page(root, version).encode()
-    except PagingFailure as failure:
+    except Failure as failure:
         raise Failure(f"the page: {failure}") from failure

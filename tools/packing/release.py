@@ -16,17 +16,16 @@ than it must isn't packed. The page is that of tools/page, or the file that IPTS
 The status is 0 where the files are there, 1 where they can't be made, and 2 for wrong words.
 """
 
-import argparse
 import hashlib
 import os
 import sys
-import tempfile
 
-from tools import ROOT
+from tools import ROOT, parser
 from tools.packing import Failure
 from tools.packing.archive import archived, tar
 from tools.packing.contents import gather
 from tools.packing.debian import package
+from tools.packing.folder import put
 from tools.packing.programs import note
 
 
@@ -43,19 +42,6 @@ def made(contents):
     return files
 
 
-def put(folder, name, data):
-    """Puts a file in place when it is whole."""
-    with tempfile.NamedTemporaryFile(dir=folder, prefix=f".{name}.", delete=False) as file:
-        try:
-            file.write(data)
-            file.close()
-            os.chmod(file.name, 0o644)
-            os.replace(file.name, os.path.join(folder, name))
-        except BaseException:
-            os.unlink(file.name)
-            raise
-
-
 def release(folder):
     if not os.path.isdir(folder) or not os.access(folder, os.W_OK):
         raise Failure(f"no folder in which a file can be made: {folder}")
@@ -64,16 +50,16 @@ def release(folder):
     sums = {name: hashlib.sha256(data).hexdigest() for name, data in files.items()}
     files[f"iptsim-{contents.version.name}.sha256"] = "".join(f"{digest}  {name}\n" for name, digest in sums.items()).encode()
     for name, data in files.items():
-        put(folder, name, data)
+        put(os.path.join(folder, name), data)
     for name, digest in sums.items():
         print(f"{digest}  {name if folder == '.' else os.path.join(folder, name)}")
 
 
 def main():
-    parser = argparse.ArgumentParser(prog="tools/release", description=__doc__, formatter_class=argparse.RawDescriptionHelpFormatter)
-    parser.add_argument("folder", metavar="FOLDER", nargs="?", default=".")
+    words = parser("release", __doc__)
+    words.add_argument("folder", metavar="FOLDER", nargs="?", default=".")
     try:
-        release(parser.parse_args().folder)
+        release(words.parse_args().folder)
     except (Failure, OSError) as failure:
         note(failure)
         return 1

@@ -1,5 +1,1 @@
 """What tools/page makes: the bitcode of the proved programs, their WebAssembly, and the page that has both."""
-
-
-class Failure(Exception):
-    """Why no page is made."""

@@ -5,11 +5,11 @@ it, so it is given a clang that keeps a copy and then does as the other. What co
 proved and built before, so the module is that program's.
 """
 
+import filecmp
 import os
-import stat
 
 from commands.crates import crates_of, uses_of
-from tools.paging import Failure
+from tools.packing import Failure
 from tools.paging.kit import call
 
 TARGET = "x86_64-unknown-linux-gnu"
@@ -34,7 +34,7 @@ def keeping_toolchain(kit, folder):
     clang = os.path.join(made, "bin", "clang")
     with open(clang, "w", encoding="utf-8") as file:
         file.write(KEEPING.format(kept=kept, clang=kit.part("toolchain", "bin", "clang")))
-    os.chmod(clang, os.stat(clang).st_mode | stat.S_IXUSR)
+    os.chmod(clang, 0o755)
     return made, kept
 
 
@@ -64,11 +64,6 @@ def build(root, kit, name, toolchain, made):
           kit.part("c", "libos_c.a"), kit.part("c", "liblibc_c.a")], cwd=folder)
 
 
-def same(one, other):
-    with open(one, "rb") as left, open(other, "rb") as right:
-        return left.read() == right.read()
-
-
 def bitcode(root, kit, name, program, work):
     """The path of the module of `program`, below the folder `work`."""
     toolchain, kept = keeping_toolchain(kit, work)
@@ -77,6 +72,6 @@ def bitcode(root, kit, name, program, work):
     modules = os.listdir(kept)
     if len(modules) != 1:
         raise Failure(f"the toolchain handed {len(modules)} modules to clang, and not one: this script has to be fitted to it")
-    if not same(made, program):
+    if not filecmp.cmp(made, program, shallow=False):
         raise Failure(f"{program} isn't the program that these sources give: build it again")
     return os.path.join(kept, modules[0])

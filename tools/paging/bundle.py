@@ -7,7 +7,7 @@ one module are seen in all, so no two may have the same at their top level.
 import os
 import re
 
-from tools.paging import Failure
+from tools.packing import Failure
 
 IMPORT = re.compile(r'^import \{ ([\w, ]+) \} from "(\.[\w./-]+\.js)";$')
 EXPORTED = re.compile(r"^export (?=(?:async function|function|const|let|class)\b)")

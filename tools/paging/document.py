@@ -6,7 +6,7 @@ import hashlib
 import os
 import re
 
-from tools.paging import Failure
+from tools.packing import Failure
 from tools.paging.bundle import bundle
 
 PLACE = re.compile(r"\{\{(\w+)\}\}")

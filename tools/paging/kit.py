@@ -4,7 +4,7 @@ import os
 import shutil
 import subprocess
 
-from tools.paging import Failure
+from tools.packing import Failure
 
 
 class Kit:

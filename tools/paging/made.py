@@ -7,8 +7,8 @@ import os
 import sys
 import tempfile
 
+from tools.packing import Failure
 from tools.packing.programs import PROGRAMS, find_program, told, with_version
-from tools.paging import Failure
 from tools.paging.bitcode import bitcode
 from tools.paging.document import page, read
 from tools.paging.kit import Kit

@@ -10,40 +10,25 @@ Two runs on one commit, with the same programs, make the same file, byte for byt
 The status is 0 where the page is there, 1 where it can't be made, and 2 for wrong words.
 """
 
-import argparse
 import os
 import sys
-import tempfile
 
-from tools import ROOT
-from tools import packing
+from tools import ROOT, parser
+from tools.packing import Failure
+from tools.packing.folder import put
 from tools.packing.version import find_version
-from tools.paging import Failure
 from tools.paging.made import make_page
 
 
-def put(path, text):
-    """Puts the page in place when it is whole."""
-    folder = os.path.dirname(os.path.abspath(path))
-    os.makedirs(folder, exist_ok=True)
-    with tempfile.NamedTemporaryFile("w", dir=folder, prefix=".page.", encoding="utf-8", delete=False) as file:
-        try:
-            file.write(text)
-            file.close()
-            os.chmod(file.name, 0o644)
-            os.replace(file.name, path)
-        except BaseException:
-            os.unlink(file.name)
-            raise
-
-
 def main():
-    parser = argparse.ArgumentParser(prog="tools/page", description=__doc__, formatter_class=argparse.RawDescriptionHelpFormatter)
-    parser.add_argument("file", metavar="FILE", nargs="?", default=os.path.join(ROOT, "web", "out", "iptsim.html"))
-    path = parser.parse_args().file
+    words = parser("page", __doc__)
+    words.add_argument("file", metavar="FILE", nargs="?", default=os.path.join(ROOT, "web", "out", "iptsim.html"))
+    path = words.parse_args().file
     try:
-        put(path, make_page(ROOT, find_version(ROOT)))
-    except (Failure, packing.Failure, OSError) as failure:
+        page = make_page(ROOT, find_version(ROOT))
+        os.makedirs(os.path.dirname(os.path.abspath(path)), exist_ok=True)
+        put(path, page.encode())
+    except (Failure, OSError) as failure:
         print(f"page: {failure}", file=sys.stderr)
         return 1
     return 0

@@ -3,7 +3,7 @@
 import os
 import re
 
-from tools.paging import Failure
+from tools.packing import Failure
 from tools.paging.kit import call
 
 # The target that the toolchain writes the module for, and ours. Both have pointers, integers and structs of the same forms.

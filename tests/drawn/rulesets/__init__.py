@@ -7,5 +7,5 @@
     large       rulesets of 30 to 200 rules in INPUT and some user chains
     edits       large rulesets, edited
 
-Each draws from a `random.Random`. What a draw is weighted by is in tables.
+What a draw is weighted by is in tables.
 """

@@ -106,7 +106,7 @@ class Edits:
 def edited(large, ruleset, dead):
     """A ruleset with one to ten edits, of which some take out dead rules, those of these names, first."""
     draw, quiet = large.draw, large.draw.choice(QUIET)
-    kinds = [large.weighted(QUIET_KINDS if draw.random() < quiet else KINDS) for _ in range(draw.choice((1, 1, 2, draw.randint(3, MOST))))]
+    kinds = [draw.weighted(QUIET_KINDS if draw.random() < quiet else KINDS) for _ in range(draw.choice((1, 1, 2, draw.randint(3, MOST))))]
     if draw.random() < POLICY:
         kinds[-1] = "policy"
     edits = Edits(large, ruleset.without(draw.sample(dead, min(len(dead), kinds.count("dead")))))

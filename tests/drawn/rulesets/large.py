@@ -67,9 +67,6 @@ class Large:
         self.draw = draw
         self.interfaces, self.ports = Interfaces(draw), Ports(draw)
 
-    def weighted(self, table):
-        return self.draw.choices(list(table), list(table.values()))[0]
-
     def maybe_not(self):
         return self.draw.choice(("", "", "", "", "", "! "))
 
@@ -98,7 +95,7 @@ class Large:
 
     def conditions(self, wide):
         """What a rule asks, at least one thing."""
-        kind, words = self.weighted(WIDE_KINDS if wide else KINDS), []
+        kind, words = self.draw.weighted(WIDE_KINDS if wide else KINDS), []
         if self.draw.random() < (0.4 if wide else 0.75):
             words.append(f"{self.maybe_not()}-s {self.draw.choice(NETWORKS)}")
         if self.draw.random() < (0.4 if wide else 0.75) or not kind and not words:
@@ -108,7 +105,7 @@ class Large:
     def rule(self, chain, later, wide=False):
         """A rule of a chain, which may lead to later ones; one that does so is wide."""
         leads = later and self.draw.random() < (0.2 if chain == "INPUT" else 0.12)
-        end = f"{self.weighted(WAYS)} {self.draw.choice(later)}" if leads else self.weighted(ENDS)
+        end = f"{self.draw.weighted(WAYS)} {self.draw.choice(later)}" if leads else self.draw.weighted(ENDS)
         return " ".join([f"-A {chain}", *self.conditions(wide or leads), end]).rstrip()
 
     def drawn(self, size):

@@ -1,7 +1,9 @@
 """What the plain model of tests/model says of packets that walk a ruleset."""
 
 import collections
+import re
 
+from tests.drawn.rulesets.ruleset import target_of
 from tests.model.matching import matches
 from tests.model.packets import packet_of
 from tests.model.session import Session, loaded, whole
@@ -53,6 +55,16 @@ def matched(ruleset, rule, packets):
         words = words[:-2]
     alone, = table_of(ruleset._replace(chains=[], rules=[" ".join(["-A INPUT", *words])])).rules(b"INPUT")
     return [matches(alone, packet) for packet in packets]
+
+
+def comes_to(ruleset, chain, packets):
+    """Of each packet whether it may come to a chain: to that of the hook each does, to another one where a rule leads there of which each field allows it:
+    each port, where it asks for both at once, but no fragment."""
+    if chain == "INPUT":
+        return [True] * len(packets)
+    calls = [re.sub(r"(! )?--ports \S+", "--dports 0:65535", rule) for rule in ruleset.rules if target_of(rule) == chain]
+    columns = [matched(ruleset, rule, packets) for rule in calls]
+    return [any(column[at] for column in columns) for at in range(len(packets))]
 
 
 def dead_of(ruleset, found):

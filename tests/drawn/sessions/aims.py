@@ -6,7 +6,7 @@ from . import values
 
 
 def beside(number, top, dice):
-    return min(max(number + dice.one((0, 0, 0, 0, 1, -1)), 0), top)
+    return min(max(number + dice.choice((0, 0, 0, 0, 1, -1)), 0), top)
 
 
 def host(text):
@@ -21,21 +21,21 @@ def address(key):
     def aim(said, dice):
         network, _, length = said[0].partition(b"/")
         last = host(network) | (1 << (32 - int(length))) - 1
-        return {key: shown(beside(dice.one((host(network), last)), 2**32 - 1, dice))}
+        return {key: shown(beside(dice.choice((host(network), last)), 2**32 - 1, dice))}
 
     return aim
 
 
 def host_range(key):
-    return lambda said, dice: {key: shown(beside(host(dice.one(said[0].split(b"-"))), 2**32 - 1, dice))}
+    return lambda said, dice: {key: shown(beside(host(dice.choice(said[0].split(b"-"))), 2**32 - 1, dice))}
 
 
 def interface(key):
     def aim(said, dice):
         if not said[0].endswith(b"+"):
-            return {key: dice.one((said[0], said[0], (said[0] + b"0")[:15]))}
+            return {key: dice.choice((said[0], said[0], (said[0] + b"0")[:15]))}
         begun = said[0][:-1]
-        return {key: dice.one((begun + b"7", begun + b"+", begun or b"x", begun[:-1] or b"x"))[:15]}
+        return {key: dice.choice((begun + b"7", begun + b"+", begun or b"x", begun[:-1] or b"x"))[:15]}
 
     return aim
 
@@ -44,24 +44,24 @@ def ports(*keys):
     """An end of one of the ranges of a list."""
 
     def aim(said, dice):
-        end = dice.one(dice.one(said[0].split(b",")).split(b":"))
-        return {dice.one(keys): b"%d" % beside(int(end), 65535, dice)}
+        end = dice.choice(dice.choice(said[0].split(b",")).split(b":"))
+        return {dice.choice(keys): b"%d" % beside(int(end), 65535, dice)}
 
     return aim
 
 
 def icmp_type(said, dice):
     kind, _, code = said[0].replace(b"any", b"8").partition(b"/")
-    return {b"icmp": b"%d/%d" % (beside(int(kind), 255, dice), beside(int(code or dice.one((b"0", b"255"))), 255, dice))}
+    return {b"icmp": b"%d/%d" % (beside(int(kind), 255, dice), beside(int(code or dice.choice((b"0", b"255"))), 255, dice))}
 
 
 def states(said, dice):
-    state = dice.one(said[0].split(b","))
-    return {b"ct": dice.one((b"NEW,", b"ESTABLISHED,")) + state if state in (b"SNAT", b"DNAT") else state}
+    state = dice.choice(said[0].split(b","))
+    return {b"ct": dice.choice((b"NEW,", b"ESTABLISHED,")) + state if state in (b"SNAT", b"DNAT") else state}
 
 
 def flags(said, dice):
-    return {b"flags": said[1] if dice.chance(0.7) else said[1] + b"," + dice.one(values.FLAGS)}
+    return {b"flags": said[1] if dice.chance(0.7) else said[1] + b"," + dice.choice(values.FLAGS)}
 
 
 def time_to_live(said, dice):

@@ -33,15 +33,15 @@ class CommandDraw:
     def user_chain(self):
         """One that there is, if there is one; else any name."""
         there = self.table.user_chains()
-        return self.dice.one(there) if there and not self.bad(0.25) else self.any_name()
+        return self.dice.choice(there) if there and not self.bad(0.25) else self.any_name()
 
     def any_name(self):
-        return self.dice.one(values.BAD_CHAINS if self.bad(0.3) else values.CHAINS)
+        return self.dice.choice(values.BAD_CHAINS if self.bad(0.3) else values.CHAINS)
 
     def new_name(self):
         """A name that no chain has yet, most of the time."""
         free = [name for name in values.CHAINS if name not in self.table.chains]
-        return self.dice.one(free) if free and not self.bad(0.6) and self.dice.chance(0.9) else self.any_name()
+        return self.dice.choice(free) if free and not self.bad(0.6) and self.dice.chance(0.9) else self.any_name()
 
     def chain(self, has_rules=False):
         """Any chain that there is, now and then another."""
@@ -49,16 +49,16 @@ class CommandDraw:
             return self.any_name()
         filled = [name for name, rules in self.table.chains.items() if rules]
         if has_rules and filled and self.dice.chance(0.85):
-            return self.dice.one(sorted(filled))
+            return self.dice.choice(sorted(filled))
         there = self.table.user_chains()
-        return self.dice.one(there) if there and self.dice.chance(0.5) else self.dice.weighted({b"INPUT": 6, b"FORWARD": 3, b"OUTPUT": 2})
+        return self.dice.choice(there) if there and self.dice.chance(0.5) else self.dice.weighted({b"INPUT": 6, b"FORWARD": 3, b"OUTPUT": 2})
 
     def number(self, chain, more=0):
         """The number of a rule, or one past the last."""
         there = len(self.table.chains.get(chain, ())) + more
         if self.bad(0.3) or not there:
-            return self.dice.one(values.BAD_NUMBERS if self.bad(0.6) else values.NUMBERS)
-        return b"%d" % self.dice.within(1, there)
+            return self.dice.choice(values.BAD_NUMBERS if self.bad(0.6) else values.NUMBERS)
+        return b"%d" % self.dice.randint(1, there)
 
     def rule(self, chain):
         """The words of a rule. Its target is mostly a chain that stands after this one, so that most don't make a loop."""
@@ -70,7 +70,7 @@ class CommandDraw:
         other = {b"INPUT": (b"-o", b"--out-interface"), b"OUTPUT": (b"-i", b"--in-interface")}.get(chain)
         if other and self.dice.chance(0.01):
             # (a rule that is refused for its interface, and perhaps for its target)
-            return [other[0], b"lo", b"-j", self.dice.one(values.BUILT_IN + values.CHAINS)]
+            return [other[0], b"lo", b"-j", self.dice.choice(values.BUILT_IN + values.CHAINS)]
         return words if other is None or self.dice.chance(0.15 + self.wrong / 2) else without(words, other)
 
     def rule_there(self, chain):
@@ -78,7 +78,7 @@ class CommandDraw:
         rules = self.table.chains.get(chain)
         if not rules or self.bad(0.3):
             return self.rule(chain)
-        words = words_of(printing.rule(self.dice.one(rules)))
+        words = words_of(printing.rule(self.dice.choice(rules)))
         if self.dice.chance(0.3):
             words = [OTHER_NAMES.get(word, word) for word in words]
         if self.dice.chance(0.15):
@@ -105,32 +105,32 @@ class CommandDraw:
         if kind == "-X":
             return [] if dice.chance(0.2) else [self.empty_chain()]
         if kind == "-P":
-            policy = dice.one((b"REJECT", b"accept", b"", b"-", b"RETURN")) if self.bad(0.2) else dice.one((b"ACCEPT", b"DROP"))
-            return [chain if dice.chance(0.06 + self.wrong / 4) else dice.one(values.BUILT_IN), policy]
+            policy = dice.choice((b"REJECT", b"accept", b"", b"-", b"RETURN")) if self.bad(0.2) else dice.choice((b"ACCEPT", b"DROP"))
+            return [chain if dice.chance(0.06 + self.wrong / 4) else dice.choice(values.BUILT_IN), policy]
         return [self.chain() if dice.chance(0.1) else self.user_chain(), self.new_name()]
 
     def empty_chain(self):
         """An empty chain, if there is one and luck has it."""
         empty = [name for name in self.table.user_chains() if not self.table.chains[name]]
         if empty and self.dice.chance(0.6):
-            return self.dice.one(empty)
+            return self.dice.choice(empty)
         return self.user_chain() if self.dice.chance(0.85) else self.chain()
 
     def command(self, kinds):
         """The words of a command, with what may stand before it."""
         kind = self.dice.weighted(kinds)
         if kind == "none":
-            return list(self.dice.one(NO_COMMANDS))
+            return list(self.dice.choice(NO_COMMANDS))
         name = kind.encode() if self.dice.chance(0.85) else LONG[kind]
         words = [name, *self.words(kind)]
         if self.bad(0.04):
-            words = words[: self.dice.within(1, 2)]
+            words = words[: self.dice.randint(1, 2)]
         if self.bad(0.03):
-            words.append(self.dice.one((b"x", b"1", b"", b"-j", b"INPUT")))
+            words.append(self.dice.choice((b"x", b"1", b"", b"-j", b"INPUT")))
         if self.bad(0.06):
-            words = [*self.dice.one(HEADS), *(words if self.dice.chance(0.7) else ())]
+            words = [*self.dice.choice(HEADS), *(words if self.dice.chance(0.7) else ())]
         elif self.dice.chance(0.04):
-            words = [self.dice.one((b"-t", b"--table")), b"filter", *words]
+            words = [self.dice.choice((b"-t", b"--table")), b"filter", *words]
         return words
 
 

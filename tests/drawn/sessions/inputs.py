@@ -3,6 +3,7 @@
 import collections
 import re
 
+from tests.drawn.lots import Lots
 from tests.model.restore import FILTER, OUTSIDE, Restore
 from tests.model.session import Session, answer, loaded, whole
 from tests.model.words import lines_of
@@ -10,9 +11,9 @@ from tests.model.words import lines_of
 from . import values
 from .aims import aimed
 from .commands import KINDS, LIGHT_KINDS, CommandDraw
-from .dice import Dice, spelled
 from .packets import packet
 from .sections import listed_lines, restore_line
+from .spelled import spelled
 
 FAULT = re.compile(rb"line [0-9]+: ([A-Z][0-9]+) .*")
 # What is drawn, by its weight: how often each kind of line comes in a session, how often something is made bad, and whether rules
@@ -42,7 +43,7 @@ class Talk:
 
     def __init__(self, dice, theme, table=None):
         self.dice, self.theme, self.run = dice, THEMES[theme], Session(table)
-        self.wrong = dice.one((self.theme.wrong, self.theme.wrong / 5))
+        self.wrong = dice.choice((self.theme.wrong, self.theme.wrong / 5))
         self.lines, self.replies, self.counts, self.walks = [], [], collections.Counter(), 0
 
     def say(self, line):
@@ -86,9 +87,9 @@ class Talk:
         chains = values.BUILT_IN if self.dice.chance(0.8) else table.user_chains()
         filled = [chain for chain in chains if table.chains[chain]]
         if filled and self.dice.chance(0.85):
-            chain = self.dice.one(filled)
+            chain = self.dice.choice(filled)
             hook = chain if chain in values.BUILT_IN else None
-            aim = aimed(self.dice.one(table.chains[chain]), self.dice)
+            aim = aimed(self.dice.choice(table.chains[chain]), self.dice)
         self.say(spelled(packet(self.dice, self.wrong, hook, aim), self.dice))
 
     def save(self):
@@ -99,18 +100,18 @@ class Talk:
         self.say(spelled([b"lines", draw.chain()], self.dice))
 
     def other(self):
-        self.say(self.dice.one(OTHER_LINES))
+        self.say(self.dice.choice(OTHER_LINES))
 
     def restore(self, has_end=True):
         """A restore with its end line, if it has one."""
         dice = self.dice
-        options = dice.shuffled([dice.one(names) for names in ((b"-n", b"--noflush"), (b"-t", b"--test")) if dice.chance(0.35)])
+        options = dice.shuffled([dice.choice(names) for names in ((b"-n", b"--noflush"), (b"-t", b"--test")) if dice.chance(0.35)])
         if dice.chance(self.wrong / 3):
-            options += dice.one(BAD_RESTORES)
+            options += dice.choice(BAD_RESTORES)
         end = dice.weighted(END_WORDS)
         self.say(spelled([b"iptables-restore", *options, b"<<" + end], dice))
         if self.run.restore:
-            self.section_lines(dice.within(1, 40))
+            self.section_lines(dice.randint(1, 40))
             if has_end and not dice.chance(0.02):
                 self.say(self.run.end if self.run.restore else b"")
 
@@ -126,7 +127,7 @@ class Talk:
                 return
             line = restore_line(dice, self.run.restore, self.wrong, may_end=left < most / 2)
             if self.run.has_failed and dice.chance(0.4):
-                line = dice.one(OTHER_LINES)
+                line = dice.choice(OTHER_LINES)
             if line is None or left == 1 and dice.chance(0.9):
                 return self.close()
             self.say(line)
@@ -139,9 +140,9 @@ class Talk:
     def session(self):
         """A session: first some chains and rules, then lines of all kinds."""
         dice, theme = self.dice, self.theme
-        for name in values.CHAINS[: dice.within(0, 6)]:
+        for name in values.CHAINS[: dice.randint(0, 6)]:
             self.say(b"iptables -N " + name)
-        for _ in range(dice.within(0, 40) if theme.light else dice.within(0, 8)):
+        for _ in range(dice.randint(0, 40) if theme.light else dice.randint(0, 8)):
             self.command()
         draws = {"command": self.command, "packet": self.packet, "save": self.save, "lines": self.chain_lines, "other": self.other,
                  "restore": self.restore}
@@ -155,7 +156,7 @@ class Talk:
     def whole_restore(self, words, file):
         """An input that is one restore."""
         self.run.restore = Restore(self.run.table, "--noflush" in words, "--test" in words)
-        self.section_lines(self.dice.within(1, 60))
+        self.section_lines(self.dice.randint(1, 60))
         data = self.data()
         due = answer(words, data, file)
         if not any(FAULT.fullmatch(reply) for reply in self.replies):
@@ -181,15 +182,15 @@ def sections_in(file):
 def drawn_file(dice):
     """A file that is loaded: a restore without options, and mostly without a fault."""
     talk = Talk(dice, "whole")
-    talk.wrong = dice.one((0, 0, talk.wrong))
+    talk.wrong = dice.choice((0, 0, talk.wrong))
     talk.run.restore = Restore(talk.run.table, False, False)
-    talk.section_lines(dice.within(5, 60))
+    talk.section_lines(dice.randint(5, 60))
     return talk.data()
 
 
 def drawn_input(seed):
     """The input of a seed."""
-    dice = Dice(seed)
+    dice = Lots(seed)
     theme = dice.weighted({name: each.weight for name, each in THEMES.items()})
     words = ["session"]
     if theme == "whole":
@@ -197,7 +198,7 @@ def drawn_input(seed):
     file, table, counts = None, None, collections.Counter()
     if dice.chance(LOADED):
         # A file with a fault is mostly drawn again.
-        for _ in range(dice.within(1, 4)):
+        for _ in range(dice.randint(1, 4)):
             file = drawn_file(dice)
             table, said, status = loaded(file)
             if not said:

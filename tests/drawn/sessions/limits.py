@@ -1,8 +1,8 @@
 """Inputs that come to the limits of the table, which no short session does."""
 
+from tests.drawn.lots import Lots
 from tests.model.session import whole
 
-from .dice import Dice
 from .inputs import Input, Talk
 
 
@@ -20,9 +20,9 @@ def filled_chain(talk):
     others = (b"-I INPUT 8194 -j a", b"-A INPUT -o lo", b"-A INPUT -j nowhere", b"-A INPUT -g OUTPUT", b"-R INPUT 8192 -j a", b"-R INPUT 8193",
               b"-A a -j DROP", b"-D INPUT 8192", b"-D INPUT 1")
     for _ in range(32):
-        say(b"iptables " + dice.one(edits))
+        say(b"iptables " + dice.choice(edits))
         if dice.chance(0.3):
-            say(b"iptables " + dice.one(others))
+            say(b"iptables " + dice.choice(others))
     for line in (b"iptables-restore -n <<E", b"*filter", b"-D INPUT 8192", b"-A INPUT -j DROP", b"-A INPUT -j DROP", b"COMMIT", b"E"):
         say(line)
 
@@ -38,7 +38,7 @@ def many_chains(talk):
     say(b"E")
     edits = (b"-N x%d", b"-N y%d", b"-N k%d", b"-X k%d", b"-E k%d z", b"-E z k%d", b"-A k%d -j k1020", b"-A INPUT -j k%d")
     for number in range(80):
-        say(b"iptables " + dice.one(edits[:2] if number < 24 else edits) % dice.within(1, 1020))
+        say(b"iptables " + dice.choice(edits[:2] if number < 24 else edits) % dice.randint(1, 1020))
     for line in (b"iptables-restore -n <<E", b"*filter", b":k7 -", b":one -", b":two -", b":three -", b":four -", b":five -", b"COMMIT", b"E"):
         say(line)
 
@@ -56,7 +56,7 @@ def long_walks(talk):
         say(packet)
     edits = (b"-A a", b"-D a 1", b"-I INPUT 1", b"-D INPUT 1", b"-A INPUT -j ACCEPT", b"-A INPUT -j RETURN", b"-P INPUT DROP")
     for _ in range(4):
-        say(b"iptables " + dice.one(edits))
+        say(b"iptables " + dice.choice(edits))
         say(packet)
 
 
@@ -65,6 +65,6 @@ LIMITS = {draw.__name__: draw for draw in (filled_chain, many_chains, long_walks
 
 def limit_input(name):
     """The input of a name, whose last word is one of these, as `drawn_input` gives it."""
-    talk = Talk(Dice(name), "edits")
+    talk = Talk(Lots(name), "edits")
     LIMITS[name.split()[-1]](talk)
     return Input(["session"], None, talk.data(), (whole(talk.replies), b"", talk.run.status), talk.counts)

@@ -1,6 +1,7 @@
 """Packet lines."""
 
 from . import values
+from .spelled import cased
 
 HOOKS = {b"INPUT": 6, b"FORWARD": 3, b"OUTPUT": 2}
 PACKET_PROTOCOLS = (b"tcp",) * 8 + (b"udp",) * 5 + (b"icmp",) * 4 + values.PROTOCOLS
@@ -22,33 +23,33 @@ def parts_of(protocol, dice):
     """What a first fragment of a protocol carries."""
     given = {}
     if protocol in PORTED:
-        given = {b"sport": dice.one(values.PORTS), b"dport": dice.one(values.PORTS)}
+        given = {b"sport": dice.choice(values.PORTS), b"dport": dice.choice(values.PORTS)}
     if protocol in (b"tcp", b"6") and dice.chance(0.6):
         given[b"flags"] = values.names_of(values.FLAGS)(dice)
     if protocol in (b"icmp", b"1"):
-        given[b"icmp"] = dice.one((b"8/0", b"8/0", b"3/0", b"3/1", b"3/2", b"3/255", b"0/0", b"11/0", b"11/1", b"255/0", b"254/255", b"4/0", b"13/0"))
+        given[b"icmp"] = dice.choice((b"8/0", b"8/0", b"3/0", b"3/1", b"3/2", b"3/255", b"0/0", b"11/0", b"11/1", b"255/0", b"254/255", b"4/0", b"13/0"))
     return given
 
 
 def given_by(hook, dice, aim):
     """A good packet's keys with their values: those of the aim that it carries, and others."""
-    protocol = aim.get(b"proto") or dice.one(PACKET_PROTOCOLS)
-    given = {b"src": dice.one(values.HOSTS), b"dst": dice.one(values.HOSTS), b"proto": protocol}
+    protocol = aim.get(b"proto") or dice.choice(PACKET_PROTOCOLS)
+    given = {b"src": dice.choice(values.HOSTS), b"dst": dice.choice(values.HOSTS), b"proto": protocol}
     if hook != b"OUTPUT" and dice.chance(0.6):
-        given[b"in"] = dice.one(values.NAMES)
+        given[b"in"] = dice.choice(values.NAMES)
     if hook != b"INPUT" and dice.chance(0.6):
-        given[b"out"] = dice.one(values.NAMES)
+        given[b"out"] = dice.choice(values.NAMES)
     frag = aim.get(b"frag") or dice.weighted({b"": 9, b"0": 1, b"1": 1})
     if frag:
         given[b"frag"] = frag
     if frag != b"1":
         given.update(parts_of(protocol, dice))
     if dice.chance(0.5):
-        state = dice.one(values.STATES)
-        state += dice.one(TRANSLATIONS) if state in values.STATES[1:4] else b""
-        given[b"ct"] = dice.cased(state) if dice.chance(0.2) else state
+        state = dice.choice(values.STATES)
+        state += dice.choice(TRANSLATIONS) if state in values.STATES[1:4] else b""
+        given[b"ct"] = cased(state, dice) if dice.chance(0.2) else state
     if dice.chance(0.6):
-        given[b"ttl"] = dice.one(values.TIMES)
+        given[b"ttl"] = dice.choice(values.TIMES)
     may_have = {b"in": hook != b"OUTPUT", b"out": hook != b"INPUT", b"frag": True, b"ct": True, b"ttl": True}
     given.update((key, value) for key, value in aim.items() if key in given or may_have.get(key))
     return given
@@ -62,20 +63,20 @@ def packet(dice, wrong, hook, aim):
         words = dice.shuffled(words)
     while dice.chance(wrong):
         what = dice.weighted({"out": 5, "bad": 6, "unknown": 3, "twice": 2, "more": 6, "hook": 1})
-        at = dice.below(len(words) + 1)
+        at = dice.randrange(len(words) + 1)
         if what == "out" and words:
             del words[min(at, len(words) - 1)]
         elif what == "bad" and words:
-            place = dice.below(len(words))
+            place = dice.randrange(len(words))
             key = words[place].partition(b"=")[0]
-            words[place] = key + b"=" + dice.one(BAD.get(key, (b"",)))
+            words[place] = key + b"=" + dice.choice(BAD.get(key, (b"",)))
         elif what == "unknown":
-            words.insert(at, dice.one(UNKNOWN))
+            words.insert(at, dice.choice(UNKNOWN))
         elif what == "twice" and words:
-            words.insert(at, dice.one(words))
+            words.insert(at, dice.choice(words))
         elif what == "more":
             more = {**given_by(b"FORWARD", dice, {}), **parts_of(b"tcp", dice), **parts_of(b"icmp", dice)}
-            words.insert(at, dice.one([key + b"=" + value for key, value in more.items()]))
+            words.insert(at, dice.choice([key + b"=" + value for key, value in more.items()]))
         elif what == "hook":
-            hook = dice.one(BAD_HOOKS)
+            hook = dice.choice(BAD_HOOKS)
     return [b"packet", hook, *words] if not dice.chance(wrong / 40) else [b"packet"]

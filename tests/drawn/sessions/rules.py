@@ -55,7 +55,7 @@ class RuleDraw:
 
     def option(self, names, kinds, may_invert=True):
         """The words of an option: now and then with a longer name, and with `!`."""
-        name = names[0] if self.dice.chance(0.7) else self.dice.one(names)
+        name = names[0] if self.dice.chance(0.7) else self.dice.choice(names)
         words = [name, *(self.value(kind) for kind in kinds)]
         inverts = may_invert and name not in NOT_INVERTED
         share = 0.22 if inverts else self.wrong / 8
@@ -63,7 +63,7 @@ class RuleDraw:
 
     def some_of(self, options, most):
         """Different ones of some options, in any order."""
-        count = self.dice.within(1, most)
+        count = self.dice.randint(1, most)
         drawn = {}
         for _ in range(count):
             names, kinds, _ = self.dice.weighted({each: each[2] for each in options})
@@ -80,19 +80,19 @@ class RuleDraw:
             chosen = []
         words = [word for names, kinds in chosen for word in self.option(names, kinds)]
         begun = name not in (b"tcp", b"udp", b"icmp") or not words or self.dice.chance(0.5)
-        return [self.dice.one((b"-m", b"-m", b"--match")), name, *words] if begun else words
+        return [self.dice.choice((b"-m", b"-m", b"--match")), name, *words] if begun else words
 
     def named_chain(self):
         """A chain that there is, most of the time."""
         if self.chains and not self.dice.chance(self.wrong / 3):
-            return self.dice.one(self.chains)
-        return self.dice.one(values.BUILT_IN) if self.dice.chance(0.2) else self.value("chain")
+            return self.dice.choice(self.chains)
+        return self.dice.choice(values.BUILT_IN) if self.dice.chance(0.2) else self.value("chain")
 
     def target(self):
         kind = self.dice.weighted(LIGHT_TARGETS if self.light else TARGETS)
-        jump, goto = self.dice.one((b"-j", b"-j", b"--jump")), self.dice.one((b"-g", b"-g", b"--goto"))
+        jump, goto = self.dice.choice((b"-j", b"-j", b"--jump")), self.dice.choice((b"-g", b"-g", b"--goto"))
         if kind in ("chain", "goto") and not self.chains and not self.dice.chance(0.1 + self.wrong):
-            kind = self.dice.one((b"ACCEPT", b"DROP", b"RETURN"))
+            kind = self.dice.choice((b"ACCEPT", b"DROP", b"RETURN"))
         if kind in ("chain", "goto"):
             return [jump if kind == "chain" else goto, self.named_chain()]
         if kind == "none":
@@ -115,7 +115,7 @@ class RuleDraw:
         needed = [protocol for match in drawn for protocol in NEEDED.get(match, ())]
         due = []
         if needed and not dice.chance(self.wrong / 4):
-            due = [dice.one(PROTOCOL_NAMES), dice.one(NEEDED[next(match for match in drawn if match in NEEDED)])]
+            due = [dice.choice(PROTOCOL_NAMES), dice.choice(NEEDED[next(match for match in drawn if match in NEEDED)])]
         elif dice.chance(0.15):
             due = self.option(PROTOCOL_NAMES, ("protocol",))
         # (a second match of another protocol lacks what it needs)
@@ -126,9 +126,9 @@ class RuleDraw:
     def wronged(self, words):
         """The words with one of them taken out, put in or changed."""
         dice, words = self.dice, list(words)
-        at = dice.below(len(words) + 1)
-        names, kinds, _ = dice.one(OPTIONS)
-        some = [dice.one(names), *(self.value(kind) for kind in kinds)]
+        at = dice.randrange(len(words) + 1)
+        names, kinds, _ = dice.choice(OPTIONS)
+        some = [dice.choice(names), *(self.value(kind) for kind in kinds)]
         what = dice.weighted(WRONGS)
         if what == "out" and words:
             del words[min(at, len(words) - 1)]
@@ -137,20 +137,20 @@ class RuleDraw:
         elif what == "option":
             words = words + some if dice.chance(0.6) else words[:at] + some + words[at:]
         elif what in ("unknown", "command"):
-            words.insert(at if dice.chance(0.5) else len(words), dice.one(UNKNOWN if what == "unknown" else COMMANDS))
+            words.insert(at if dice.chance(0.5) else len(words), dice.choice(UNKNOWN if what == "unknown" else COMMANDS))
         elif what == "!":
             words.insert(at, b"!")
         elif what == "twice":
-            words += words[: dice.within(1, 4)]
+            words += words[: dice.randint(1, 4)]
         elif what == "many":
-            words += [b"-m", b"comment", b"--comment", b"x"] * dice.within(14, 17)
-            words += dice.one(([], [b"-m", b"state"], [b"--syn"], [b"-m", b"x"]))
+            words += [b"-m", b"comment", b"--comment", b"x"] * dice.randint(14, 17)
+            words += dice.choice(([], [b"-m", b"state"], [b"--syn"], [b"-m", b"x"]))
         elif what == "bare":
-            words.append(dice.one(names))
+            words.append(dice.choice(names))
         elif what == "match":
             words += [b"-m", self.value("match")]
         elif what == "target":
-            words += [dice.one((b"-g", b"-j")), self.value("chain")]
+            words += [dice.choice((b"-g", b"-j")), self.value("chain")]
         return words
 
     def rule(self):

@@ -5,7 +5,7 @@ from tests.model.restore import FILTER, OUTSIDE
 
 from . import values
 from .commands import SECTION_KINDS, CommandDraw
-from .dice import spelled
+from .spelled import spelled
 
 COUNTERS = (b"[0:0]", b"[5:300]", b"[0007:99999999999999999999]", b"[12:900]")
 BAD_COUNTERS = (b"[0:x]", b"[0]", b"[:0]", b"0:0", b"[0:0", b"[0:0]]", b"[]", b"[-1:0]", b"[ 0:0]")
@@ -24,8 +24,8 @@ PASSED = (b"", b"# x", b"  \t", b'# "', b" # COMMIT", b"#")
 
 def with_counters(line, dice, wrong):
     if dice.chance(wrong / 10):
-        return dice.one(BAD_COUNTERS) + b" " + line
-    return dice.one(COUNTERS) + b" " + line if dice.chance(0.2) else line
+        return dice.choice(BAD_COUNTERS) + b" " + line
+    return dice.choice(COUNTERS) + b" " + line if dice.chance(0.2) else line
 
 
 def chain_line(dice, restore, wrong):
@@ -33,14 +33,14 @@ def chain_line(dice, restore, wrong):
     names = [name for name in values.BUILT_IN + values.CHAINS if name not in restore.named]
     is_again = not names or restore.named and dice.chance(0.03 + wrong / 2)
     known = sorted(restore.named) if is_again else names
-    name = dice.one(values.BAD_CHAINS) if dice.chance(wrong / 4) else dice.one(known)
+    name = dice.choice(values.BAD_CHAINS) if dice.chance(wrong / 4) else dice.choice(known)
     if dice.chance(0.2 if is_again else wrong / 2):
-        policy = dice.one((b"DROP", b"REJECT", b"x", b"", b"- -"))
+        policy = dice.choice((b"DROP", b"REJECT", b"x", b"", b"- -"))
     else:
-        policy = dice.one((b"ACCEPT", b"DROP", b"-")) if name in values.BUILT_IN else b"-"
+        policy = dice.choice((b"ACCEPT", b"DROP", b"-")) if name in values.BUILT_IN else b"-"
     words = [b":" + name, policy]
     if dice.chance(0.8):
-        words.append(dice.one(BAD_COUNTERS) if dice.chance(wrong / 10) else dice.one(COUNTERS))
+        words.append(dice.choice(BAD_COUNTERS) if dice.chance(wrong / 10) else dice.choice(COUNTERS))
     return spelled(words, dice)
 
 
@@ -54,7 +54,7 @@ def filter_line(dice, restore, wrong):
         return with_counters(spelled(words, dice), dice, wrong)
     if kind == "commit":
         return dice.weighted(ENDS)
-    return dice.one(PASSED if kind == "passed" else BAD_LINES)
+    return dice.choice(PASSED if kind == "passed" else BAD_LINES)
 
 
 def restore_line(dice, restore, wrong, may_end):
@@ -63,19 +63,19 @@ def restore_line(dice, restore, wrong, may_end):
         kind = dice.weighted({"open": 40, "passed": 6, "bad": wrong * 20, "end": 40 if may_end else 0})
         if kind == "end":
             return None
-        return dice.weighted(OPENINGS) if kind == "open" else dice.one(PASSED if kind == "passed" else BAD_OPENINGS)
+        return dice.weighted(OPENINGS) if kind == "open" else dice.choice(PASSED if kind == "passed" else BAD_OPENINGS)
     if restore.where == FILTER:
         return filter_line(dice, restore, wrong)
-    return dice.weighted({dice.one(SKIPPED): 5, dice.one(PASSED): 1, dice.weighted(ENDS): 4})
+    return dice.weighted({dice.choice(SKIPPED): 5, dice.choice(PASSED): 1, dice.weighted(ENDS): 4})
 
 
 def listed_lines(dice, table):
     """The listing of the table as a dump: with counters, comments and, now and then, a line less or one twice."""
     lines = [b"# Generated", *(printing.listing(table))]
     changed = dice.weighted({"nothing": 6, "out": 2, "twice": 2})
-    at = dice.within(2, len(lines) - 1)
+    at = dice.randint(2, len(lines) - 1)
     if changed == "out":
         del lines[at]
     elif changed == "twice":
         lines.insert(at, lines[at])
-    return [dice.one(COUNTERS) + b" " + line if line.startswith(b"-A") and dice.chance(0.5) else line for line in lines]
+    return [dice.choice(COUNTERS) + b" " + line if line.startswith(b"-A") and dice.chance(0.5) else line for line in lines]

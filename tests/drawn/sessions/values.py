@@ -1,5 +1,7 @@
 """Good and bad values of options and packet keys: few of each, so that rules and packets meet."""
 
+from .spelled import cased
+
 CHAINS = (b"a", b"b", b"c", b"d", b"e", b"A", b"ab", b"in-put", b"input", b"Drop", b"~", b"!".join((b"x", b"y")), b"f-2", b"n" * 28)
 BAD_CHAINS = (b"-a", b"!a", b"ACCEPT", b"DROP", b"RETURN", b"QUEUE", b"REJECT", b"LOG", b"n" * 29, b"", b'a"b', b"a b", b"\x7f", b"\xe9",
               b"x\ty")
@@ -44,52 +46,52 @@ BAD_NUMBERS = (b"0", b"01", b"00", b"007", b"8192", b"8193", b"999999999", b"100
 
 
 def address(dice):
-    return dice.one(HOSTS) + dice.one(LENGTHS)
+    return dice.choice(HOSTS) + dice.choice(LENGTHS)
 
 
 def bad_address(dice):
-    return dice.one(BAD_HOSTS) + dice.one(LENGTHS) if dice.chance(0.5) else dice.one(HOSTS) + dice.one(BAD_LENGTHS)
+    return dice.choice(BAD_HOSTS) + dice.choice(LENGTHS) if dice.chance(0.5) else dice.choice(HOSTS) + dice.choice(BAD_LENGTHS)
 
 
 def port_range(dice):
     """A port, or a range of which an end may be missing."""
     if dice.chance(0.5):
-        return dice.one(PORTS)
-    first, last = sorted((int(dice.one(PORTS)), int(dice.one(PORTS))))
+        return dice.choice(PORTS)
+    first, last = sorted((int(dice.choice(PORTS)), int(dice.choice(PORTS))))
     shown = b"%d:%d" % (first, last)
-    return dice.one((shown, shown, shown, shown, b"%d:" % first, b":%d" % last, b"0:65535", b":"))
+    return dice.choice((shown, shown, shown, shown, b"%d:" % first, b":%d" % last, b"0:65535", b":"))
 
 
 def port_list(dice):
     most = dice.weighted({1: 3, 3: 5, 8: 2, 17: 1})
     parts = []
-    for _ in range(dice.within(1, most)):
-        first, last = sorted((int(dice.one(PORTS)), int(dice.one(PORTS))))
+    for _ in range(dice.randint(1, most)):
+        first, last = sorted((int(dice.choice(PORTS)), int(dice.choice(PORTS))))
         parts.append(b"%d:%d" % (first, last) if dice.chance(0.3) else b"%d" % first)
     return b",".join(parts)
 
 
 def bad_port_list(dice):
-    return dice.one((b"1:2,3:4,5:6,7:8,9:10,11:12,13:14,15:16", b":5", b"5:", b"22,", b",22", b"22,,80", b"80:22", b"22, 80", b"", b"ssh",
-                     b",".join([b"1"] * 16), b"1,65536"))
+    return dice.choice((b"1:2,3:4,5:6,7:8,9:10,11:12,13:14,15:16", b":5", b"5:", b"22,", b",22", b"22,,80", b"80:22", b"22, 80", b"", b"ssh",
+                        b",".join([b"1"] * 16), b"1,65536"))
 
 
 def names_of(known):
     """A list of names in any case, with repeats."""
 
     def draw(dice):
-        names = b",".join(dice.some(known, dice.weighted({1: 4, 2: 4, 4: 1})) if dice.chance(0.95) else dice.shuffled(known))
-        return dice.cased(names) if dice.chance(0.3) else names
+        names = b",".join(dice.choices(known, k=dice.randint(1, dice.weighted({1: 4, 2: 4, 4: 1}))) if dice.chance(0.95) else dice.shuffled(known))
+        return cased(names, dice) if dice.chance(0.3) else names
 
     return draw
 
 
 def host_range(dice):
-    return dice.one(HOSTS) + (b"-" + dice.one(HOSTS) if dice.chance(0.8) else b"")
+    return dice.choice(HOSTS) + (b"-" + dice.choice(HOSTS) if dice.chance(0.8) else b"")
 
 
 def of(known):
-    return lambda dice: dice.one(known)
+    return lambda dice: dice.choice(known)
 
 
 # Of each kind of value how a good one is drawn, and how one that is likely to be bad.

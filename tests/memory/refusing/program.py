@@ -1,6 +1,7 @@
 """A program that is run with one allocation refused."""
 
 import os
+import pathlib
 import shutil
 import subprocess
 import tempfile
@@ -40,8 +41,7 @@ class RefusingProgram:
         os.makedirs(os.path.dirname(self.load))
         shutil.copy(path, self.path)
         os.chmod(self.path, 0o700)
-        with open(self.path, "rb") as file:
-            self.places = places_of(SIGN, file.read())
+        self.places = places_of(SIGN, pathlib.Path(self.path).read_bytes())
         self.environment = None if self.places else preloaded(self.folder.name)
 
     def refuse(self, number):
@@ -60,8 +60,7 @@ class RefusingProgram:
     def run(self, words, data, file=None):
         """What it writes to standard output and to standard error, and its status."""
         if file is not None:
-            with open(self.load, "wb") as load:
-                load.write(file)
+            pathlib.Path(self.load).write_bytes(file)
             words = (*words, "--load", self.load)
         ended = subprocess.run([self.path, *words], input=data, capture_output=True, check=False, env=self.environment)
         return ended.stdout, ended.stderr, ended.returncode

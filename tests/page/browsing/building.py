@@ -1,11 +1,12 @@
 """How tools/page is built and refused, with a toolchain of stand-ins, and texts in place of modules."""
 
 import os
+import pathlib
 import tempfile
 
 import pytest
 
-from tools.paging import Failure
+from tools.packing import Failure
 from tools.paging.bitcode import bitcode
 from tools.paging.bundle import bundle
 from tools.paging.wasm import GIVEN, WANTED, retargeted
@@ -80,8 +81,7 @@ class StandIn:
                             ("c/liblibc_c.a", "")):
             path = self.part(*place.split("/"))
             os.makedirs(os.path.dirname(path), exist_ok=True)
-            with open(path, "w", encoding="utf-8") as file:
-                file.write(text)
+            pathlib.Path(path).write_text(text, encoding="utf-8")
             os.chmod(path, 0o755)
 
     def part(self, *place):
@@ -101,20 +101,16 @@ def handed(told, program):
     with tempfile.TemporaryDirectory() as work:
         root, proved = os.path.join(work, "root"), os.path.join(work, "proved")
         os.makedirs(os.path.join(root, "crates", "p"))
-        with open(os.path.join(root, "crates.txt"), "w", encoding="utf-8") as file:
-            file.write("p:\n")
-        with open(proved, "wb") as file:
-            file.write(program)
+        pathlib.Path(os.path.join(root, "crates.txt")).write_text("p:\n", encoding="utf-8")
+        pathlib.Path(proved).write_bytes(program)
         module = bitcode(root, StandIn(os.path.join(work, "kit"), told), "p", proved, os.path.join(work, "made"))
-        with open(module, encoding="utf-8") as file:
-            return file.read()
+        return pathlib.Path(module).read_text(encoding="utf-8")
 
 
 def bundled(changed):
     with tempfile.TemporaryDirectory() as work:
         for name, text in {**MODULES, **changed}.items():
-            with open(os.path.join(work, name), "w", encoding="utf-8") as file:
-                file.write(text)
+            pathlib.Path(os.path.join(work, name)).write_text(text, encoding="utf-8")
         return bundle(os.path.join(work, "main.js"))
 
 

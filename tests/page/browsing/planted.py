@@ -1,6 +1,7 @@
 """Faults that are planted in what stands between a program and the page, each of which a trial has to find."""
 
 import os
+import pathlib
 import shutil
 
 # The file, a text of it, and the text that takes its place.
@@ -34,10 +35,8 @@ def planted_machine(sources, name, folder):
     file, old, new = MACHINE[name]
     shutil.copytree(sources, folder, dirs_exist_ok=True)
     path = os.path.join(folder, file)
-    with open(path, encoding="utf-8") as opened:
-        text = replaced(opened.read(), old, new)
-    with open(path, "w", encoding="utf-8") as opened:
-        opened.write(text)
+    text = replaced(pathlib.Path(path).read_text(encoding="utf-8"), old, new)
+    pathlib.Path(path).write_text(text, encoding="utf-8")
     return folder
 
 

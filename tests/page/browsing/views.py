@@ -1,6 +1,7 @@
 """The views of the page, used as by a user, with what is due: rows of what is shown."""
 
 import os
+import pathlib
 import struct
 import tempfile
 import time
@@ -36,8 +37,7 @@ class Views:
         data = self.browser.picture(whole)
         self.same(f"the picture {name} has something", True, len(data) > 5000)
         if self.pictures:
-            with open(os.path.join(self.pictures, f"{self.browser.name}-{name}.png"), "wb") as file:
-                file.write(data)
+            pathlib.Path(os.path.join(self.pictures, f"{self.browser.name}-{name}.png")).write_bytes(data)
 
     def check_start(self):
         self.has("the start", "Nothing is uploaded", self.user.text("#view-start"))
@@ -92,8 +92,7 @@ class Views:
     def check_change(self):
         user = self.user
         user.click("#tab-change")
-        with open(os.path.join(EXAMPLES, "office.rules"), encoding="utf-8") as file:
-            lines = file.read().split("\n")
+        lines = pathlib.Path(os.path.join(EXAMPLES, "office.rules")).read_text(encoding="utf-8").split("\n")
         user.give("#second-text", "\n".join(line for line in lines if '"mail server"' not in line))
         user.click("#compare")
         answers = "[...document.querySelectorAll('[data-hook]')].map((it) => `${it.dataset.hook} ${it.dataset.answer}`).join()"

@@ -88,3 +88,13 @@ def test_clear(about, iptaudit):
     came = re.findall(rb"(?m)^(?:dead|unclear) \S+ \d+|^\d+ rules, .*", ended.stdout)
     due = [b"dead " + name for name in dead] + [b"%d rules, %d dead, 0 unclear" % (len(rules), len(dead))]
     same((1, b"\n".join(due), b""), (ended.returncode, b"\n".join(came), ended.stderr))
+
+
+def test_changed(iptaudit):
+    """Runs `compare` on a ruleset and on one with another verdict behind 60 jumps on conditions, which all come back: a packet gets both."""
+    rules, _dead = RULESETS["jumps on conditions"]
+    edited = [b"-A INPUT -j REJECT" if rule == b"-A INPUT -j ACCEPT" else rule for rule in rules]
+    ended = iptaudit.run(["compare", "O", "N"], {"O": dump_of(rules), "N": dump_of(edited)})
+    came = re.findall(rb"(?m)^(?:INPUT|FORWARD|OUTPUT) [a-z]+$|^verdict .*|^\d+ changed rules, .*", ended.stdout)
+    due = [b"INPUT differs", b"verdict ACCEPT by rule", b"verdict REJECT icmp-port-unreachable by rule", b"FORWARD same", b"OUTPUT same"]
+    assert (ended.returncode, came, ended.stderr) == (1, due + [b"2 changed rules, 0 dead, 0 unclear"], b"")

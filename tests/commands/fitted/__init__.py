@@ -1,1 +1,0 @@
-"""Rows for tests/commands/fit."""

@@ -1,1 +1,0 @@
-"""Lines of dumps by the table of options, for tests/answers/apart."""
