@@ -20,7 +20,7 @@ pub use asked::likeness::Likeness;
 pub use asked::reach::{Given, reach};
 pub use asked::reached::Reached;
 pub use asked::reason::{Reason, why_dead, why_dead_under};
-pub use asked::rule::{Life, dead, dead_under};
+pub use asked::rule::{Life, dead, dead_under, life_under};
 pub use asked::takers::Takers;
 pub use asked::walks::walks;
 pub use boxes::area::Area;

@@ -26,8 +26,9 @@ use Rattle.table.proofs.laws.chains.KeepLaws.{rules_by_name as named_rules}
 use Rattle.questions.specs.Ends.{IsRule, rule_at}
 use Rattle.questions.specs.Foreign.{Agrees, Assignment, all_hold, need_holds, needs_at, resolved, resolved_rule}
 use Rattle.questions.specs.Leaves.{entry_of, name_at}
-use Rattle.questions.specs.Scopes.{answered, table_of}
+use Rattle.questions.specs.Scopes.{answered, table_of, whole_of}
 use Rattle.questions.specs.asked.Always.{IsAlwaysDeadAt}
+use Rattle.questions.specs.asked.Unclear.{HaveAll}
 use Rattle.questions.specs.boxes.Area.{Has, IsAtHook, IsBoth, IsIn}
 use Rattle.questions.specs.boxes.Cut.{IsCut, IsInSome, IsPartedFor}
 use Rattle.questions.specs.declared.foreign.answers.Answer.{Answer}
@@ -608,6 +609,10 @@ at_first P path by e h = let Q : Option Step → Type 0 = λ o. IfSome o P in su
 -- where no way is left, no packet comes
 pub none_comes : (s : Subject) (step : Step) (hook : Hook) (ways : List Way) → length ways ≡ 0 → AreAllWays s step hook ways → IsAlwaysDeadAt s step hook
 none_comes s step hook ways none all a p at there on = let any = all a p at there on in omega (arith, any.2, none)
+
+-- a packet that may come by a way is one of that way's
+pub have_all : (s : Subject) (step : Step) (hook : Hook) (ways : List Way) → AreAllWays s step hook ways → HaveAll (whole_of s) step hook ways
+have_all s step hook ways all a p at there on = let (k, way, lt, is, may) = all a p at there on in (k, way, lt, is, may.here)
 
 -- the first way has each packet that comes
 pub first_way : (s : Subject) (step : Step) (hook : Hook) (first : Way) (ways : List Way) → IsSound (table_of s) → IsRule (table_of s) step → first.wanted ≡ step → IsScopeAt (table_of s) s.needs.now step hook first.scope

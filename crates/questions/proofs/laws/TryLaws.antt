@@ -10,9 +10,10 @@ use Rattle.fields.specs.numbers.Field.{all_fields, number_on}
 use Rattle.fields.specs.numbers.Spans.{SpanSet}
 use Rattle.fields.specs.packet.Packet.{PacketView as Packet}
 use Rattle.classify.specs.classifier.Classifier.{IsPoint, box_allows, box_matches}
-use Rattle.table.specs.chains.Table.{Table}
+use Rattle.questions.specs.Scopes.{Whole}
 use Rattle.questions.specs.boxes.Area.{Has, IsIn, IsNarrower}
 use Rattle.questions.specs.boxes.Cut.{IsInSome}
+use Rattle.questions.specs.boxes.Meeting.{AreMet}
 use Rattle.questions.specs.declared.foreign.answers.Answer.{Answer}
 use Rattle.questions.specs.declared.seeking.way.Way.{Way}
 use Rattle.questions.specs.declared.walking.scope.Scope.{Scope}
@@ -48,7 +49,7 @@ pub one_less : (way : Way) (scopes : List Scope) → All (IsLess way.scope) scop
 one_less way scopes all part is = record { wanted = is.wanted; places = is.places; less = All-contains (IsLess way.scope) scopes part.scope all is.scope }
 
 -- one more try
-pub tries_next : (n : ℕ) (t : Table) (first mid new : List Way) → AreTries n t first mid → IsTry t mid new → AreTries (n + 1) t first new
+pub tries_next : (n : ℕ) (t : Whole) (first mid new : List Way) → AreTries n t first mid → IsTry t mid new → AreTries (n + 1) t first new
 tries_next n t first mid new tries one = let P : ℕ → Type 0 = λ m. AreTries m t first new in subst P (sym (add-one n)) (mid, tries, one)
 
 -- ---- a box without another one
@@ -62,14 +63,18 @@ some_fails p (f ∷ fields) e =
     ]
 
 -- a box that lacks numbers of another one is narrower
-narrower_of : (box other : List SpanSet) (numbers : List ℕ) → Has box numbers → (Has other numbers → ⊥) → IsNarrower box other
-narrower_of box other numbers has lacks =
+narrower_of : (box other : List SpanSet) (numbers : List ℕ) → IsPoint numbers → Has box numbers → (Has other numbers → ⊥) → IsNarrower box other
+narrower_of box other numbers point has lacks =
     elim (cases_Bool (box_matches numbers other)) [
       | inl t ↦ absurd (lacks (record { each = t }))
       | inr un ↦ (
           let (f, off) = some_fails (λ g. box_allows other g (number_on numbers g)) all_fields un in
-          (f, number_on numbers f, on_field box numbers f has.each, off))
+          (f, number_on numbers f, point f, on_field box numbers f has.each, off))
     ]
+
+-- two boxes that have the packet meet
+pub met_by : (p : Packet) (own other : List SpanSet) → IsPoint p.values → IsIn own p → IsIn other p → AreMet own other
+met_by p own other point one two f = (number_on p.values f, point f, on_field own p.values f one.each, on_field other p.values f two.each)
 
 -- the scopes of its parts are smaller, since a packet of the other box is gone
 pub but_less : (p : Packet) (whole : Scope) (own : List SpanSet) (parts : List (List SpanSet)) (scopes : List Scope) → IsPoint p.values → IsIn whole.area p → IsIn own p
@@ -79,7 +84,7 @@ but_less p whole own parts scopes point there inside only all k d lt =
     let is : IsBoxUnder parts whole.answers part = all k d lt in
     record {
       inside = λ numbers at has. (only numbers at (part.area, is.area, has)).0;
-      less = inl (narrower_of whole.area part.area p.values there (λ here. (only p.values point (part.area, is.area, here)).1 inside));
+      less = inl (narrower_of whole.area part.area p.values point there (λ here. (only p.values point (part.area, is.area, here)).1 inside));
     }
 
 -- scopes that are put where none was

@@ -1,11 +1,13 @@
 -- Where alone an answer may be unclear, given a budget of steps.
-use Rattle.std.specs.Prelude.{◌≡◌, ◌⊎◌, ℕ, ◌<◌, List, [], ◌∷◌, ◌++◌, length}
+use Rattle.std.specs.Prelude.{◌≡◌, ◌⊎◌, ℕ, ◌<◌, List, [], ◌∷◌, ◌++◌, length, Any, Contains}
 use Rattle.fields.specs.declared.packet.hook.Hook.{Hook}
 use Rattle.fields.specs.packet.Packet.{PacketView as Packet}
 use Rattle.table.specs.chains.Table.{Table}
 use Rattle.table.specs.declared.walk.trail.Step.{Step}
+use Rattle.table.specs.walk.Walk.{walk}
+use Rattle.questions.specs.Foreign.{Assignment}
 use Rattle.questions.specs.Leaves.{entry_of}
-use Rattle.questions.specs.Scopes.{Whole, all_of}
+use Rattle.questions.specs.Scopes.{Whole, all_of, left_under}
 use Rattle.questions.specs.Written.{HasNoneWritten}
 use Rattle.questions.specs.asked.Rule.{IsDeadAt}
 use Rattle.questions.specs.boxes.Area.{HasNumbers, IsAtHook, IsIn, IsOnly}
@@ -15,6 +17,7 @@ use Rattle.questions.specs.declared.asked.rule.Life.TheVariants as life
 use Rattle.questions.specs.declared.seeking.way.Way.{Way}
 use Rattle.questions.specs.declared.walking.scope.Scope.{Scope}
 use Rattle.questions.specs.steps.Lengths.{IsBounded}
+use Rattle.questions.specs.steps.Seeking.{IsHere}
 use Rattle.questions.specs.steps.Taken.{IsUnfinishedUnder}
 use Rattle.questions.specs.steps.Tries.{AreTries, IsFirst}
 
@@ -29,13 +32,21 @@ IsUntold t hook budget way =
     (HasNumbers way.scope.area × HasNoneWritten hook way.scope.area)
     ⊎ ((p : Packet) × IsAtHook p × (p.hook ≡ hook) × IsIn way.scope.area p × IsUnended t hook budget way.scope.answers p)
 
--- a packet that comes to the rule is sought in vain: after as many tries as the budget allows some way is left; or after fewer the last way can't be told
+-- at the hook each packet that comes to the rule is one of some way's, whatever holds
+abbrev pub HaveAll : Whole → Step → Hook → List Way → Type 0
+HaveAll t step hook ways =
+    (a : Assignment) (p : Packet) → IsAtHook p → p.hook ≡ hook → Contains (walk (left_under t a) p).trail (entry_of (left_under t a).chains step)
+    → Any (λ (way : Way). IsHere a p way.scope) ways
+
+-- a packet that comes to the rule is sought in vain: after as many tries as the budget allows some way is left; or after fewer the last way can't be told.
+-- No packet that comes there is lost.
 pub record IsSoughtInVain (t : Whole) (step : Step) (hook : Hook) (budget : ℕ) : Type 0 where
   pub first : Way
   pub ways : List Way
   pub begins : IsFirst t step hook first
   pub n : ℕ
-  pub tries : AreTries n t.table (first ∷ []) ways
+  pub tries : AreTries n t (first ∷ []) ways
+  pub all : HaveAll t step hook ways
   pub vain : ((n ≡ budget) × (0 < length ways))
       ⊎ ((n < budget) × ((left : List Way) × (way : Way) × (ways ≡ left ++ way ∷ []) × IsUntold t hook budget way))
 

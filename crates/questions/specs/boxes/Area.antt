@@ -46,7 +46,7 @@ HasNumbers box = (f : Field) → (x : ℕ) × (x ≤ top f) × (box_allows box f
 
 -- on some field another box is narrower than a box: it lacks a number that this one has
 abbrev pub IsNarrower : List SpanSet → List SpanSet → Type 0
-IsNarrower box other = (f : Field) × (x : ℕ) × (box_allows box f x ≡ true) × (box_allows other f x ≡ false)
+IsNarrower box other = (f : Field) × (x : ℕ) × (x ≤ top f) × (box_allows box f x ≡ true) × (box_allows other f x ≡ false)
 
 -- one box has of the numbers of another exactly those whose number on a field is in a set
 pub record IsNarrowed (field : Field) (wanted : SpanSet) (before after : List SpanSet) : Type 0 where

@@ -8,7 +8,7 @@ use Rattle.table.specs.steps.Kept.{hook_index}
 use Rattle.table.specs.walk.Walk.{walk}
 use Rattle.questions.specs.Foreign.{Assignment}
 use Rattle.questions.specs.Leaves.{entry_of}
-use Rattle.questions.specs.Scopes.{answered, table_of, whole_of}
+use Rattle.questions.specs.Scopes.{answered, whole_of}
 use Rattle.questions.specs.asked.Always.{SaysAt}
 use Rattle.questions.specs.asked.Unclear.{IsUntold}
 use Rattle.questions.specs.boxes.Area.{IsAtHook, IsIn}
@@ -42,5 +42,5 @@ pub record IsElsewhere (t : Table) (hook : Hook) (way : Way) : Type 0 where
 -- a packet comes to the rule; or others take the way over; or it can't be told, and the others stay
 abbrev pub IsTried : Subject → Course → Way → List Way → List Way → Tried → Type 0
 IsTried subject course way old new (Comes words answers) = SaysAt subject way.wanted course.hook (Live words answers)
-IsTried subject course way old new Parted = TakesOn subject course.hook way old new × AddsWays (TakesPlace (table_of subject) way) old new
+IsTried subject course way old new Parted = TakesOn subject course.hook way old new × AddsWays (TakesPlace (whole_of subject) way) old new
 IsTried subject course way old new Unknown = (new ≡ old) × IsUntold (whole_of subject) course.hook course.budget way

@@ -107,7 +107,7 @@ pub fn dead(
         boxed: subject,
         needs: &needs,
     };
-    dead_under(alloc, &subject, place, number, budget)
+    life_under(alloc, &subject, place, number, budget)
 }
 
 /// The same of a table whose rules need something: whether the rule is dead whatever holds; or a packet line and answers, such that the rule is
@@ -115,13 +115,11 @@ pub fn dead(
 ///
 /// A step of a packet's walks is also one box that parts by a condition (`leaves_under`). A packet is offered if it is seen to come to the rule
 /// whatever else holds, or if its walks, for all assignments that give the answers, are known to have the rule and to end with `budget` steps.
-/// Of more than eight answers the first half is given, again and again, as long as it is seen to suffice. Of up to eight each is necessary:
-/// without it the rule may be off the packet's walk, or the walks aren't known to end with `budget` steps.
 ///
 /// # Errors
 ///
 /// `AllocError` where memory was refused.
-pub fn dead_under(
+pub fn life_under(
     alloc: Global,
     subject: &Subject<'_>,
     place: usize,
@@ -134,7 +132,6 @@ pub fn dead_under(
     ensures says { IfOk result (SaysUnder subject.now (record { chain = (chain_at (table_of subject.now) place).name; number = number })) }
     ensures short { IfOk result (λ life. life ≡ Dead → AreNeverTooLongUnder subject.now (record { chain = place; number = number })) }
     ensures unclear { IfOk result (IsUnclearUnder subject.now (record { chain = place; number = number }) budget) }
-    ensures few { IfOk result (IsByFew subject.now (record { chain = place; number = number }) budget) }
 {
     let step = Step {
         chain: place,
@@ -154,10 +151,7 @@ pub fn dead_under(
         };
         match life_at(subject, course, step)? {
             Life::Dead => {}
-            Life::Live(words, answers) => {
-                let enough = enough_of(alloc, subject, &words, answers, step, budget)?;
-                return Ok(Life::Live(words, enough));
-            }
+            Life::Live(words, answers) => return Ok(Life::Live(words, answers)),
             Life::Unclear => clear = false,
         }
     }
@@ -165,4 +159,40 @@ pub fn dead_under(
         return Ok(Life::Dead);
     }
     Ok(Life::Unclear)
+}
+
+/// The same with few answers. Of more than eight the first half is given, again and again, as long as it is seen to suffice. Of up to eight each
+/// is necessary: without it the rule may be off the packet's walk, or the walks aren't known to end with `budget` steps. That costs up to eight
+/// more searches for a walk of the packet that misses the rule.
+///
+/// # Errors
+///
+/// `AllocError` where memory was refused.
+pub fn dead_under(
+    alloc: Global,
+    subject: &Subject<'_>,
+    place: usize,
+    number: usize,
+    budget: usize,
+) -> Result<Life, AllocError>
+    requires place { place < length (table_of subject.now).chains }
+    requires first { 0 < number }
+    requires last { number ≤ length (chain_at (table_of subject.now) place).rules }
+    ensures says { IfOk result (SaysUnder subject.now (record { chain = (chain_at (table_of subject.now) place).name; number = number })) }
+    ensures short { IfOk result (λ life. life ≡ Dead → AreNeverTooLongUnder subject.now (record { chain = place; number = number })) }
+    ensures unclear { IfOk result (IsUnclearUnder subject.now (record { chain = place; number = number }) budget) }
+    ensures few { IfOk result (IsByFew subject.now (record { chain = place; number = number }) budget) }
+{
+    match life_under(alloc, subject, place, number, budget)? {
+        Life::Live(words, answers) => {
+            let step = Step {
+                chain: place,
+                number,
+            };
+            let enough = enough_of(alloc, subject, &words, answers, step, budget)?;
+            Ok(Life::Live(words, enough))
+        }
+        Life::Dead => Ok(Life::Dead),
+        Life::Unclear => Ok(Life::Unclear),
+    }
 }

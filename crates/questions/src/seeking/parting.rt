@@ -19,7 +19,7 @@ use rules::cross;
 use std::alloc::{AllocError, Global};
 use table::Step;
 
-// The rule of a step, if it asks both ports and those of a packet aren't among them.
+// The rule of a step, if it asks both ports and doesn't match those of a packet.
 fn missing<'a>(subject: Subject<'a>, by: Step, packet: &Packet) -> Option<Seen<'a>>
     ensures { IfSome result (IsSeen subject.entry by) }
 {
@@ -30,7 +30,7 @@ fn missing<'a>(subject: Subject<'a>, by: Step, packet: &Packet) -> Option<Seen<'
     None
 }
 
-// A rule of a way that asks both ports, if those of a packet aren't among them.
+// A rule of a way that asks both ports and doesn't match those of a packet, if there is one.
 fn missing_on<'a>(subject: Subject<'a>, way: &Way, packet: &Packet) -> Option<Seen<'a>>
     ensures { IfSome result (λ seen. (by : Place) × IsPlaceOf way.now by × IsSeen subject.entry by seen) }
 {

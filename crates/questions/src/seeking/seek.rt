@@ -1,6 +1,6 @@
 //! The search for a packet that comes to a rule: packets of its box walk, one after another, and each that is led away says
 //! which packets to try next. Where none is left, the rule is dead.
-ghost use Rattle.std.specs.Prelude.{All, Contains, IfOk, IfSome, IsTrue};
+ghost use Rattle.std.specs.Prelude.{◌↔◌, All, Contains, IfOk, IfSome, IsTrue};
 ghost use Rattle.table.specs.walk.Walk.{walk};
 ghost use Rattle.questions.specs.Ends.{IsRule};
 ghost use Rattle.questions.specs.Foreign.{Agrees, Assignment};
@@ -93,7 +93,7 @@ fn led_away(
 
 // Whether a way begins in a chain that is there, and isn't the hook's.
 fn begins_elsewhere(subject: &Subject<'_>, hook: Hook, way: &Way) -> bool
-    ensures { IsTrue result → IsElsewhere (table_of subject.now) hook way.now }
+    ensures { IsTrue result ↔ IsElsewhere (table_of subject.now) hook way.now }
 {
     let chain = way.chain();
     chain != hook_index(hook) && chain < subject.boxed.table.chain_count()

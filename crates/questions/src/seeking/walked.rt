@@ -15,7 +15,6 @@ use crate::asked::walks::box_of;
 use crate::boxes::area::Area;
 use crate::boxes::cut::outside;
 use crate::boxes::matched::has;
-use crate::boxes::meeting::meet;
 use crate::foreign::answers::Answers;
 use crate::foreign::need::{Need, meeting};
 use crate::foreign::subject::Subject;
@@ -77,9 +76,6 @@ fn add_all_but(alloc: Global, way: &Way, own: &Area, ways: &mut Vec<Way>) -> Res
     ensures takes { OnOk result (TakesAllBut own.now way.now ways.old.items ways.new.items) }
     ensures less { OnOk result (AddsWays (IsWayFor way.now) ways.old.items ways.new.items) }
 {
-    if !meet(way.scope.area.sets(), own.sets()) {
-        return Ok(());
-    }
     let parts = outside(alloc, way.scope.area.sets(), own.sets())?;
     let mut scopes = Vec::new(alloc);
     add_boxes(alloc, parts, &way.scope.answers, &mut scopes)?;

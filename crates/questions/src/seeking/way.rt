@@ -4,11 +4,11 @@ ghost use Rattle.fields.specs.packet.Packet.{PacketView};
 ghost use Rattle.rules.specs.rule.Allows.{matches};
 ghost use Rattle.table.specs.steps.Kept.{hook_index};
 ghost use Rattle.questions.specs.Foreign.{Assignment, all_hold};
-ghost use Rattle.questions.specs.Scopes.{table_of};
+ghost use Rattle.questions.specs.Scopes.{table_of, whole_of};
 ghost use Rattle.questions.specs.boxes.Area.{IsAtHook};
 ghost use Rattle.questions.specs.boxes.Calls.{IsCall};
 ghost use Rattle.questions.specs.steps.Seeking.{IsAheadOn, IsForOne, IsHere, TakesBy, TakesOver, TakesScopes, top_of};
-ghost use Rattle.questions.specs.steps.Tries.{AddsWays, IsLonger, LiesIn};
+ghost use Rattle.questions.specs.steps.Tries.{AddsWays, IsLetOn, IsLonger};
 
 use crate::foreign::need::meeting;
 use crate::foreign::subject::Subject;
@@ -101,7 +101,7 @@ pub(crate) fn met_with(
 ) -> Result<Option<Scope>, AllocError>
     ensures all { IfOk result (λ found. (a : Assignment) (p : PacketView) → IsAtHook p → IsHere a p scope.now
         → matches p.values seen.now.rule.now ≡ true → IsTrue (all_hold a seen.now.needs.now) → MatchOption found ⊥ (IsHere a p)) }
-    ensures inside { IfOk result (λ found. IfSome found (LiesIn scope.now)) }
+    ensures only { IfOk result (λ found. IfSome found (IsLetOn seen.now.rule.now seen.now.needs.now scope.now)) }
 {
     let Some(answers) = meeting(seen.needs, scope.answers.copy(alloc)?)? else {
         return Ok(None);
@@ -123,7 +123,7 @@ fn add_by(
 ) -> Result<(), AllocError>
     ensures takes { OnOk result (TakesBy subject.now way.now by ways.old.items ways.new.items) }
     ensures longer { IsCall (table_of subject.now) (record { to = (top_of way.now.wanted way.now.places.items).chain; by = by })
-        → OnOk result (AddsWays (IsLonger (table_of subject.now) way.now) ways.old.items ways.new.items) }
+        → OnOk result (AddsWays (IsLonger (whole_of subject.now) way.now) ways.old.items ways.new.items) }
 {
     subject.boxed.table.stands();
     let Some(seen) = Seen::at(*subject, by) else {
@@ -149,7 +149,7 @@ pub(crate) fn add_longer(
     requires there { (top_of way.now.wanted way.now.places.items).chain < length (table_of subject.now).chains }
     requires other { (top_of way.now.wanted way.now.places.items).chain ≢ hook_index hook }
     ensures takes { OnOk result (TakesOver subject.now hook way.now ways.old.items ways.new.items) }
-    ensures longer { OnOk result (AddsWays (IsLonger (table_of subject.now) way.now) ways.old.items ways.new.items) }
+    ensures longer { OnOk result (AddsWays (IsLonger (whole_of subject.now) way.now) ways.old.items ways.new.items) }
 {
     subject.boxed.table.stands();
     let chain = way.chain();

@@ -1,4 +1,7 @@
-use Rattle.std.proofs.Common.{sym, ◌∙◌, arith}
+use Rattle.std.proofs.Common.{◌≡◌, ℕ, ◌≤◌, sym, ap, ◌∙◌, subst, arith}
+use Rattle.fields.specs.numbers.Field.{top}
+use Rattle.fields.specs.numbers.Spans.{SpanSet}
+use Rattle.rules.proofs.laws.boxing.BoxLaws.{top_on}
 use Rattle.classify.proofs.laws.classifier.ClassifierLaws.{field_at}
 use Rattle.questions.proofs.laws.AreaLaws.{at_place, from_places, set_at}
 use Rattle.questions.proofs.boxes.lying.lies_in.Goals as goal
@@ -13,4 +16,5 @@ returns-then-not-is_part-clause-some c = λ _.
     let k = c.loop-place.place in
     let (f, at) = field_at k (omega (arith, c.loop-place-test.true)) in
     let (x, le, on, off) = c.is_part.ensures.some c.if-not-is_part.true in
-    (f, x, sym (set_at c.args.own.now k f c.index-own-place.result x c.requires.own (sym at) c.index-own-place.is) ∙ on, sym (set_at c.args.other.now k f c.index-other-place.result x c.requires.other (sym at) c.index-other-place.is) ∙ off)
+    let same : c.index-own-place.result.top ≡ top f = ap (λ (s : SpanSet). s.top) c.index-own-place.is ∙ top_on c.args.own.now c.requires.own f k c.index-own-place.result (sym at) in
+    (f, x, subst (λ (t : ℕ). x ≤ t) same le, sym (set_at c.args.own.now k f c.index-own-place.result x c.requires.own (sym at) c.index-own-place.is) ∙ on, sym (set_at c.args.other.now k f c.index-other-place.result x c.requires.other (sym at) c.index-other-place.is) ∙ off)

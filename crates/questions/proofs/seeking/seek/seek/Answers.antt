@@ -1,9 +1,9 @@
 use Rattle.std.proofs.Common.{◌≡◌, inl, inr, ◌+◌, List, [], ◌∷◌, length, arith, sym, subst}
-use Rattle.std.proofs.lemmas.Bool.{true≢false}
+use Rattle.std.proofs.lemmas.Bool.{cases_Bool, true≢false}
 use Rattle.std.proofs.lemmas.List.Elements.{All-nil, All-push}
 use Rattle.table.specs.declared.walk.trail.Step.{Step}
 use Rattle.questions.specs.Ends.{IsRule}
-use Rattle.questions.specs.Scopes.{table_of}
+use Rattle.questions.specs.Scopes.{table_of, whole_of}
 use Rattle.questions.specs.asked.Always.{SaysAt}
 use Rattle.questions.specs.declared.asked.rule.Life.TheVariants.{Live}
 use Rattle.questions.specs.declared.seeking.way.Way.{Way}
@@ -11,7 +11,7 @@ use Rattle.questions.specs.declared.walking.scope.Scope.{Scope}
 use Rattle.questions.specs.steps.Meant.{IsScopeAt}
 use Rattle.questions.specs.steps.Seeking.{AllWant}
 use Rattle.questions.specs.steps.Tries.{AreTries, TakesPlace}
-use Rattle.questions.proofs.laws.SeekLaws.{first_way, last_wanted, never_meets, next_ways, none_comes}
+use Rattle.questions.proofs.laws.SeekLaws.{first_way, have_all, last_wanted, never_meets, next_ways, none_comes}
 use Rattle.questions.proofs.laws.TryLaws.{adds_none, tries_next}
 use Rattle.questions.proofs.seeking.seek.seek.Goals as goal
 use Rattle.questions.proofs.seeking.seek.seek.Goals.{else-clear-2-via-else-clear-2, else-clear-2-via-then-clear-2+else-is_empty, in-Parted, in-Unknown}
@@ -37,7 +37,7 @@ loop-tried-init c =
 pub loop-tried-preserved : goal.loop-tried-preserved
 loop-tried-preserved c =
     let s = c.args.subject.now in
-    let t = table_of s in
+    let t = whole_of s in
     let step = c.args.step in
     let hook = c.args.course.hook in
     let way = c.in-Some-pop.way in
@@ -63,7 +63,18 @@ loop-tried-preserved c =
             wanted = subst P (sym same) last.0;
             all = λ clear. absurd (true≢false (sym clear));
             tries = (first, begins, subst Q (sym same) (tries_next c.loop-tried.tried t (first ∷ []) old left tries (left, way, c.in-Some-pop.ensures.items, adds_none (TakesPlace t way) left)));
-            vain = λ off. record { first = first; ways = old; begins = begins; n = c.loop-tried.tried; tries = tries; vain = inr (omega (arith, c.loop-tried-test.true), (left, way, c.in-Some-pop.ensures.items, untold)) };
+            vain = λ off. elim (cases_Bool c.loop-tried.clear) [
+              | inr before ↦ c.loop-tried.invariant.vain before
+              | inl clear ↦ record {
+                first = first;
+                ways = old;
+                begins = begins;
+                n = c.loop-tried.tried;
+                tries = tries;
+                all = have_all s step hook old (c.loop-tried.invariant.all clear);
+                vain = inr (omega (arith, c.loop-tried-test.true), (left, way, c.in-Some-pop.ensures.items, untold));
+              }
+            ];
           }))
     ]
 
@@ -107,6 +118,7 @@ returns-clause-vain c =
         begins = begins;
         n = c.loop-tried.tried;
         tries = tries;
+        all = have_all c.args.subject.now c.args.step c.args.course.hook c.loop-tried.ways.items (c.loop-tried.invariant.all w.if-clear-2.true);
         vain = inl (omega (arith, c.loop-tried-test.false, c.loop-tried.auto.tried-end), grind (arith, w.is_empty.ensures, w.if-is_empty.false, c.loop-tried.ways.ok.0));
       }
       | else-clear-2-via-else-clear-2 w ↦ c.loop-tried.invariant.vain w.if-clear-2.false

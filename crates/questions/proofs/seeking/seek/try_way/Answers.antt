@@ -1,5 +1,5 @@
 use Rattle.std.proofs.Common.{inl, refl}
-use Rattle.questions.specs.Scopes.{table_of}
+use Rattle.questions.specs.Scopes.{whole_of}
 use Rattle.questions.specs.steps.Tries.{TakesPlace}
 use Rattle.questions.proofs.laws.TryLaws.{adds_none}
 use Rattle.questions.proofs.seeking.seek.try_way.Goals as goal
@@ -8,7 +8,7 @@ use Rattle.questions.proofs.seeking.seek.try_way.Goals as goal
 pub returns-then-is_empty : goal.returns-then-is_empty
 returns-then-is_empty c = (
   record { kept = λ a p h. h; taken = λ a p at there on may. absurd (c.is_empty.ensures.none c.if-is_empty.true p.values may.here.0); wanted = λ step is all. all },
-  adds_none (TakesPlace (table_of c.args.subject.now) c.args.way.now) c.args.ways.now.items,
+  adds_none (TakesPlace (whole_of c.args.subject.now) c.args.way.now) c.args.ways.now.items,
 )
 
 pub returns-in-None : goal.returns-in-None

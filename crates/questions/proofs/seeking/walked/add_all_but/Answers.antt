@@ -3,21 +3,17 @@ use Rattle.questions.specs.declared.walking.scope.Scope.{Scope}
 use Rattle.questions.specs.steps.Seeking.{AddsBoxes, IsForOne}
 use Rattle.questions.specs.steps.Tries.{IsWayFor}
 use Rattle.questions.proofs.laws.SeekLaws.{point_of}
-use Rattle.questions.proofs.laws.TryLaws.{adds_as, boxes_under, but_less, one_less}
+use Rattle.questions.proofs.laws.TryLaws.{adds_as, boxes_under, but_less, met_by, one_less}
 use Rattle.questions.proofs.seeking.walked.add_all_but.Goals as goal
 
-pub returns-then-not-meet-clause-takes : goal.returns-then-not-meet-clause-takes
-returns-then-not-meet-clause-takes c = let (p, can, in_way, in_own) = c.requires in absurd (c.meet.ensures.none c.if-not-meet.true p.values (rw c.sets.ensures.value in_way) (rw c.sets-2.ensures.value in_own))
-
-pub returns-then-not-meet-clause-less : goal.returns-then-not-meet-clause-less
-returns-then-not-meet-clause-less c = let (p, can, in_way, in_own) = c.requires in absurd (c.meet.ensures.none c.if-not-meet.true p.values (rw c.sets.ensures.value in_way) (rw c.sets-2.ensures.value in_own))
-
 pub outside-requires-clause-met : goal.outside-requires-clause-met
-outside-requires-clause-met c = rw (c.sets-3.ensures.value, c.sets-4.ensures.value) (rw (c.sets.ensures.value, c.sets-2.ensures.value) at (c.meet.ensures.some c.if-not-meet.false))
+outside-requires-clause-met c =
+    let (p, can, in_way, in_own) = c.requires in
+    rw (c.sets.ensures.value, c.sets-2.ensures.value) (met_by p c.args.way.now.scope.area c.args.own.now (point_of p can) in_way in_own)
 
 pub returns-clause-takes : goal.returns-clause-takes
 returns-clause-takes c =
-    let all = rw (c.sets-3.ensures.value, c.sets-4.ensures.value) at c.in_ok-parts.ensures.all in
+    let all = rw (c.sets.ensures.value, c.sets-2.ensures.value) at c.in_ok-parts.ensures.all in
     let done = c.in_ok-add_parts.ensures.takes in
     record {
       kept = done.kept;
@@ -31,7 +27,7 @@ returns-clause-less c =
     let way = c.args.way.now in
     let parts = c.in_ok-parts.parts.items in
     let scopes = c.add_boxes.new.scopes.items in
-    let only = rw (c.sets-3.ensures.value, c.sets-4.ensures.value) at c.in_ok-parts.ensures.only in
+    let only = rw (c.sets.ensures.value, c.sets-2.ensures.value) at c.in_ok-parts.ensures.only in
     let added : AddsBoxes parts way.scope.answers [] scopes = subst (λ (old : List Scope). AddsBoxes parts way.scope.answers old scopes) c.new-scopes.ensures.items c.in_ok-add_boxes.ensures in
     let less = but_less p way.scope c.args.own.now parts scopes (point_of p can) in_way in_own only (boxes_under parts way.scope.answers scopes added) in
     adds_as (IsForOne way scopes) (IsWayFor way) c.args.ways.now.items c.add_parts.new.ways.items (one_less way scopes less) c.in_ok-add_parts.ensures.each

@@ -1,7 +1,7 @@
 use Rattle.std.proofs.Common.{◌-◌, ◌≡◌, ◌<◌, ◌∙◌, length, get_or, ℕ, ap, subst, sym, arith}
 use Rattle.std.proofs.lemmas.List.{get_or_default}
 use Rattle.questions.specs.declared.seeking.calls.Call.{Call}
-use Rattle.questions.specs.Scopes.{table_of}
+use Rattle.questions.specs.Scopes.{table_of, whole_of}
 use Rattle.questions.specs.boxes.Calls.{IsCall}
 use Rattle.questions.specs.steps.Seeking.{IsTakenBy, top_of}
 use Rattle.questions.specs.steps.Tries.{IsLonger}
@@ -33,7 +33,7 @@ loop-before-preserved c =
           rw w.ways-is (record {
             kept = λ a p h. w.in_ok-add_by.ensures.takes.kept a p (c.loop-before.invariant.kept a p h);
             wanted = λ step is all. w.in_ok-add_by.ensures.takes.wanted step is (c.loop-before.invariant.wanted step is all);
-            longer = adds_on (IsLonger (table_of s) way) c.args.ways.now.items old new c.loop-before.invariant.longer (w.in_ok-add_by.ensures.longer (call w.if-to-chain.true));
+            longer = adds_on (IsLonger (whole_of s) way) c.args.ways.now.items old new c.loop-before.invariant.longer (w.in_ok-add_by.ensures.longer (call w.if-to-chain.true));
             taken = taken_next s c.stands.ensures.sound way chain calls before old new c.loop-before-test.true w.in_ok-add_by.ensures.takes.kept (λ d to. subst P (sym (same d)) w.in_ok-add_by.ensures.takes.taken) c.loop-before.invariant.taken;
           }))
       | else-to-chain w ↦ rw w.ways-is (record {
@@ -45,7 +45,7 @@ loop-before-preserved c =
     ]
 
 pub loop-before-init : goal.loop-before-init
-loop-before-init c = record { kept = λ a p h. h; wanted = λ step is all. all; longer = adds_none (IsLonger (table_of c.args.subject.now) c.args.way.now) c.args.ways.now.items; taken = λ k d lt le to. absurd (omega (arith, lt, le)) }
+loop-before-init c = record { kept = λ a p h. h; wanted = λ step is all. all; longer = adds_none (IsLonger (whole_of c.args.subject.now) c.args.way.now) c.args.ways.now.items; taken = λ k d lt le to. absurd (omega (arith, lt, le)) }
 
 pub returns-clause-takes : goal.returns-clause-takes
 returns-clause-takes c =

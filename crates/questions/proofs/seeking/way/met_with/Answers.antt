@@ -17,5 +17,8 @@ returns-clause-all c = λ a p at here m held.
     let more = rw (c.in-Some.is, c.in_ok-copy.ensures) at c.in_ok-answers.ensures in
     met_with_some seen.rule.now c.spans.result.now seen.needs.now c.args.scope.now c.in_ok-area.area c.in-Some.answers boxed c.in_ok-area.ensures more a p at here m held
 
-pub returns-clause-inside : goal.returns-clause-inside
-returns-clause-inside c = λ numbers point has. c.in_ok-area.ensures.first numbers point has
+pub returns-clause-only : goal.returns-clause-only
+returns-clause-only c =
+    let seen = c.args.seen.now in
+    let boxed : IsBoxOf seen.rule.now c.spans.result.now = rw (c.spans.ensures.value, c.boxed.ensures) seen.boxed in
+    record { box = c.spans.result.now; own = boxed; area = c.in_ok-area.ensures; answers = rw (c.in-Some.is, c.in_ok-copy.ensures) at c.in_ok-answers.ensures }

@@ -3,7 +3,7 @@ use Rattle.fields.specs.declared.packet.hook.Hook.{Hook}
 use Rattle.fields.specs.packet.Hook.{all_hooks}
 use Rattle.questions.specs.asked.Always.{IsAlwaysDeadAt, MayLive}
 use Rattle.questions.proofs.laws.ShortLaws.{AreShortAt}
-use Rattle.questions.proofs.asked.rule.dead_under.Given as goal
+use Rattle.questions.proofs.asked.rule.life_under.Given as goal
 
 abbrev pub invariant-loop-hook : goal.invariant-loop-hook
 invariant-loop-hook l = record {
