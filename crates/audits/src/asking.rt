@@ -10,7 +10,8 @@ use crate::asking::progress::Progress;
 use fields::{Field, Hook};
 use questions::{
     Answers, BoxedTable, Changes, Given, Leaf, Life, Likeness, Reached, Reason, Subject,
-    WrittenPacket, changes_under, compare_at_under, dead_under, reach, walks, why_dead_under,
+    WrittenPacket, changes_under, compare_at_under, dead_under, life_under, reach, walks,
+    why_dead_under,
 };
 use std::alloc::{AllocError, Global};
 use std::io::IsTerminal;
@@ -63,12 +64,25 @@ impl<'a, R: Clock, E: Print + IsTerminal> Asking<'a, R, E> {
         self.progress.end();
     }
 
-    /// Whether a rule can match (`dead_under`).
+    /// Whether a rule can match (`life_under`).
     ///
     /// # Errors
     ///
     /// `AllocError` where memory was refused.
     pub(crate) fn life(&self, subject: &Subject<'_>, at: Step) -> Result<Life, AllocError>
+        requires place { at.chain < length (table_of subject.now).chains }
+        requires first { 0 < at.number }
+        requires last { at.number ≤ length (chain_at (table_of subject.now) at.chain).rules }
+    {
+        life_under(self.alloc, subject, at.chain, at.number, self.steps)
+    }
+
+    /// Whether a rule can match, by few answers that are to be shown (`dead_under`).
+    ///
+    /// # Errors
+    ///
+    /// `AllocError` where memory was refused.
+    pub(crate) fn life_by_few(&self, subject: &Subject<'_>, at: Step) -> Result<Life, AllocError>
         requires place { at.chain < length (table_of subject.now).chains }
         requires first { 0 < at.number }
         requires last { at.number ≤ length (chain_at (table_of subject.now) at.chain).rules }

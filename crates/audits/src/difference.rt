@@ -4,7 +4,7 @@ pub(crate) mod found;
 use crate::asking::Asking;
 use crate::difference::found::{Difference, Differing, HookAnswer, HookLikeness, Pair};
 use crate::each_rule::count_rules;
-use crate::each_rule::known::{Course, Form};
+use crate::each_rule::known::{Form, Inquiry};
 use crate::each_rule::tally::Tally;
 use crate::walking::walk::Walk;
 use crate::walking::walks_of;
@@ -16,8 +16,8 @@ use std::io::IsTerminal;
 use std::rt::Clock;
 
 // What is asked of the changed rules of one of two dumps.
-fn course<'a>(pair: Pair<'a>, dump: &'a Dump) -> Course<'a> {
-    Course {
+fn inquiry<'a>(pair: Pair<'a>, dump: &'a Dump) -> Inquiry<'a> {
+    Inquiry {
         form: Form::Tests,
         dump,
         open: pair.open,
@@ -126,7 +126,7 @@ pub fn ask_difference<R: Clock, E: Print + IsTerminal>(
     asking.begin(rules.saturating_add(Hook::ALL.len()));
     let hooks = ask_hooks(asking, pair)?;
     let mut tally = Tally::new();
-    count_rules(asking, course(pair, pair.old), went, &mut tally)?;
-    count_rules(asking, course(pair, pair.new), came, &mut tally)?;
+    count_rules(asking, inquiry(pair, pair.old), went, &mut tally)?;
+    count_rules(asking, inquiry(pair, pair.new), came, &mut tally)?;
     Ok(Difference { hooks, tally })
 }

@@ -8,7 +8,7 @@ pub(crate) mod known;
 pub(crate) mod tally;
 
 use crate::asking::Asking;
-use crate::each_rule::known::{Course, Form, Found, FoundRule, Known};
+use crate::each_rule::known::{Form, Found, FoundRule, Inquiry, Known};
 use crate::each_rule::tally::Tally;
 use questions::{Life, Need, Reason, Subject};
 use rulesets::contradict;
@@ -75,7 +75,7 @@ fn put_in_order(reason: &mut Reason, place: usize) {
 fn ask_rule<R: Clock, E: Print + IsTerminal>(
     asking: &mut Asking<'_, R, E>,
     subject: &Subject<'_>,
-    course: Course<'_>,
+    inquiry: Inquiry<'_>,
     at: Step,
 ) -> Result<Known, AllocError>
     requires place { at.chain < length (table_of subject.now).chains }
@@ -83,18 +83,22 @@ fn ask_rule<R: Clock, E: Print + IsTerminal>(
     requires last { at.number ≤ length (chain_at (table_of subject.now) at.chain).rules }
 {
     asking.next();
-    if let Some(given) = covered(course.form, at) {
+    if let Some(given) = covered(inquiry.form, at) {
         return Ok(Known::Covered(given.to_vec(asking.alloc())?));
     }
-    match asking.life(subject, at)? {
-        Life::Live(_, _) if may_be_covered(course.form, at) => Ok(Known::Unclear),
+    let life = match inquiry.form {
+        Form::Dead => asking.life(subject, at)?,
+        Form::Tests | Form::Cover(_) => asking.life_by_few(subject, at)?,
+    };
+    match life {
+        Life::Live(_, _) if may_be_covered(inquiry.form, at) => Ok(Known::Unclear),
         Life::Live(words, answers) => {
-            let mut given = course.open.shown(asking.alloc(), &answers)?;
+            let mut given = inquiry.open.shown(asking.alloc(), &answers)?;
             given.sort_unstable_by_key(|need| need.condition);
             Ok(Known::Live(words, given))
         }
-        Life::Dead if !has_reasons(course.form) => Ok(Known::Dead(None)),
-        Life::Dead if contradict(course.dump.needs_of(at)) => Ok(Known::Unmet),
+        Life::Dead if !has_reasons(inquiry.form) => Ok(Known::Dead(None)),
+        Life::Dead if contradict(inquiry.dump.needs_of(at)) => Ok(Known::Unmet),
         Life::Dead => {
             let mut reason = asking.reason(subject, at)?;
             if let Some(reason) = &mut reason {
@@ -109,16 +113,16 @@ fn ask_rule<R: Clock, E: Print + IsTerminal>(
 // Asks of a rule, where one stands there, whether a packet can match it, and counts it.
 fn count_rule<R: Clock, E: Print + IsTerminal>(
     asking: &mut Asking<'_, R, E>,
-    course: Course<'_>,
+    inquiry: Inquiry<'_>,
     at: Step,
     tally: &mut Tally,
 ) -> Result<(), AllocError> {
-    let subject = course.dump.subject();
+    let subject = inquiry.dump.subject();
     let table = &subject.boxed.table;
     if at.chain >= table.chain_count() || at.number == 0 || at.number > table.rule_count(at.chain) {
         return Ok(());
     }
-    let known = ask_rule(asking, &subject, course, at)?;
+    let known = ask_rule(asking, &subject, inquiry, at)?;
     tally.note(&known, None);
     Ok(())
 }
@@ -130,12 +134,12 @@ fn count_rule<R: Clock, E: Print + IsTerminal>(
 /// `AllocError` where memory was refused.
 pub(crate) fn count_rules<R: Clock, E: Print + IsTerminal>(
     asking: &mut Asking<'_, R, E>,
-    course: Course<'_>,
+    inquiry: Inquiry<'_>,
     rules: &[Step],
     tally: &mut Tally,
 ) -> Result<(), AllocError> {
     for at in rules {
-        count_rule(asking, course, *at, tally)?;
+        count_rule(asking, inquiry, *at, tally)?;
     }
     Ok(())
 }
@@ -144,7 +148,7 @@ pub(crate) fn count_rules<R: Clock, E: Print + IsTerminal>(
 fn ask_chain<R: Clock, E: Print + IsTerminal>(
     asking: &mut Asking<'_, R, E>,
     subject: &Subject<'_>,
-    course: Course<'_>,
+    inquiry: Inquiry<'_>,
     place: usize,
     found: &mut Found,
 ) -> Result<(), AllocError>
@@ -156,8 +160,8 @@ fn ask_chain<R: Clock, E: Print + IsTerminal>(
             chain: place,
             number: before + 1,
         };
-        let known = ask_rule(asking, subject, course, at)?;
-        add(found, table, course.form, at, known)?;
+        let known = ask_rule(asking, subject, inquiry, at)?;
+        add(found, table, inquiry.form, at, known)?;
     }
     Ok(())
 }
@@ -178,9 +182,9 @@ fn rules_of(table: &Table) -> usize {
 /// `AllocError` where memory was refused.
 pub fn ask_rules<R: Clock, E: Print + IsTerminal>(
     asking: &mut Asking<'_, R, E>,
-    course: Course<'_>,
+    inquiry: Inquiry<'_>,
 ) -> Result<Found, AllocError> {
-    let subject = course.dump.subject();
+    let subject = inquiry.dump.subject();
     let table = &subject.boxed.table;
     asking.begin(rules_of(table));
     let mut found = Found {
@@ -188,7 +192,7 @@ pub fn ask_rules<R: Clock, E: Print + IsTerminal>(
         tally: Tally::new(),
     };
     for place in 0..table.chain_count() {
-        ask_chain(asking, &subject, course, place, &mut found)?;
+        ask_chain(asking, &subject, inquiry, place, &mut found)?;
     }
     Ok(found)
 }

@@ -14,7 +14,7 @@ pub use difference::ask_difference;
 pub use difference::found::{Difference, Differing, HookAnswer, HookLikeness, Pair};
 pub use each_rule::ask_rules;
 pub use each_rule::deciding::{Standing, policies_give, policy_of, rule_at, verdict_of};
-pub use each_rule::known::{Course, Form, Found, FoundRule, Known};
+pub use each_rule::known::{Form, Found, FoundRule, Inquiry, Known};
 pub use each_rule::tally::Tally;
 pub use marking::mark_packet;
 pub use marking::marks::Marks;

@@ -4,7 +4,7 @@ use crate::packets::asked_packets::Asked;
 use crate::packets::covering::read_covered;
 use crate::packets::read_packets;
 use audits::{
-    Asking, Course, Form, GivenPacket, Pair, ask_difference, ask_outcomes, ask_packets, ask_rules,
+    Asking, Form, GivenPacket, Inquiry, Pair, ask_difference, ask_outcomes, ask_packets, ask_rules,
 };
 use fields::Tap;
 use programs::{Audit, Question};
@@ -22,14 +22,14 @@ fn write_form<'a, R: Clock, E: Print + IsTerminal, W: Write>(
     json: bool,
     output: &mut Tap<W>,
 ) -> Result<u8, Fault<'a>> {
-    let course = Course {
+    let inquiry = Inquiry {
         form,
         dump: &one.dump,
         open: &one.open,
     };
-    let found = ask_rules(asking, course)?;
+    let found = ask_rules(asking, inquiry)?;
     let finding = Finding::Rules {
-        course,
+        inquiry,
         found: &found,
     };
     finding.write(asking.alloc(), json, output)?;

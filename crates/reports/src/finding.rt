@@ -10,7 +10,7 @@ use crate::json::packet_walks::packets_answer;
 use crate::lines::difference::put_differences;
 use crate::lines::each_rule::put_rules;
 use crate::lines::packet_walks::put_packets;
-use audits::{Course, Difference, Found, GivenPacket, PacketWalks, Pair};
+use audits::{Difference, Found, GivenPacket, Inquiry, PacketWalks, Pair};
 use fields::Tap;
 use rulesets::{MatchCount, OpenConditions, open_counts};
 use std::alloc::{AllocError, Global};
@@ -23,7 +23,7 @@ pub enum Finding<'a> {
     /// What is known of rules.
     Rules {
         /// What was asked.
-        course: Course<'a>,
+        inquiry: Inquiry<'a>,
         /// What is known.
         found: &'a Found,
     },
@@ -53,7 +53,7 @@ impl Finding<'_> {
     // How many conditions are open; a set of packets is asked for where there are none.
     fn counts(&self, alloc: Global) -> Result<Vec<MatchCount>, AllocError> {
         match self {
-            Finding::Rules { course, .. } => open_counts(alloc, course.open),
+            Finding::Rules { inquiry, .. } => open_counts(alloc, inquiry.open),
             Finding::Difference { pair, .. } => open_counts(alloc, pair.open),
             Finding::Outcomes(_) => Ok(Vec::new(alloc)),
             Finding::Walks { open, .. } => open_counts(alloc, open),
@@ -68,7 +68,7 @@ impl Finding<'_> {
         output: &mut Tap<W>,
     ) -> Result<(), ReportFault> {
         match self {
-            Finding::Rules { course, found } => put_rules(*course, found, counts, output)?,
+            Finding::Rules { inquiry, found } => put_rules(*inquiry, found, counts, output)?,
             Finding::Difference { pair, found } => put_differences(*pair, found, counts, output)?,
             Finding::Outcomes(found) => found.put(alloc, output)?,
             Finding::Walks {
@@ -84,7 +84,7 @@ impl Finding<'_> {
     // The same as JSON.
     fn entry(&self, alloc: Global, counts: &[MatchCount]) -> Result<Answer, AllocError> {
         match self {
-            Finding::Rules { course, found } => rules_answer(alloc, *course, found, counts),
+            Finding::Rules { inquiry, found } => rules_answer(alloc, *inquiry, found, counts),
             Finding::Difference { pair, found } => differences_answer(alloc, *pair, found, counts),
             Finding::Outcomes(found) => found.entry(alloc),
             Finding::Walks {

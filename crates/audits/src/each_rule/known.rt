@@ -30,7 +30,7 @@ impl Form<'_> {
 
 /// What is asked, and by which conditions answers are shown.
 #[derive(Clone, Copy)]
-pub struct Course<'a> {
+pub struct Inquiry<'a> {
     /// What is asked.
     pub form: Form<'a>,
     /// Of whose rules.

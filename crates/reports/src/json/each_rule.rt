@@ -8,7 +8,7 @@ use crate::json::memory_text::{packet_text, rule_text};
 use crate::json::names::name_text;
 use crate::json::reason_entry::reason_entry;
 use crate::lines::rule_line::chain_name;
-use audits::{Course, Form, Found, FoundRule, Known, Standing};
+use audits::{Form, Found, FoundRule, Inquiry, Known, Standing};
 use rulesets::{MatchCount, OpenConditions};
 use std::alloc::{AllocError, Global};
 use table::Table;
@@ -36,7 +36,7 @@ fn standing_word(standing: Standing) -> StandingWord {
 fn bare_entry(
     alloc: Global,
     table: &Table,
-    course: Course<'_>,
+    inquiry: Inquiry<'_>,
     rule: &FoundRule,
 ) -> Result<RuleEntry, AllocError> {
     let chain = name_text(alloc, chain_name(table, rule.at.chain))?;
@@ -45,7 +45,7 @@ fn bare_entry(
         number: rule.at.number,
         rule: rule_text(alloc, table, rule.at)?,
         needs: Vec::new(alloc),
-        life: life_word(course.form, &rule.known),
+        life: life_word(inquiry.form, &rule.known),
         answers: Vec::new(alloc),
         packet: None,
         reason: None,
@@ -92,12 +92,12 @@ fn reason_of(
 fn complete(
     alloc: Global,
     table: &Table,
-    course: Course<'_>,
+    inquiry: Inquiry<'_>,
     rule: &FoundRule,
     entry: &mut RuleEntry,
 ) -> Result<(), AllocError> {
-    entry.needs = answer_entries(alloc, course.open, course.dump.asked_by(rule.at))?;
-    entry.answers = answers_of(alloc, course.open, &rule.known)?;
+    entry.needs = answer_entries(alloc, inquiry.open, inquiry.dump.asked_by(rule.at))?;
+    entry.answers = answers_of(alloc, inquiry.open, &rule.known)?;
     entry.packet = packet_of(alloc, &rule.known)?;
     entry.reason = reason_of(alloc, table, &rule.known)?;
     Ok(())
@@ -107,11 +107,11 @@ fn complete(
 fn rule_entry(
     alloc: Global,
     table: &Table,
-    course: Course<'_>,
+    inquiry: Inquiry<'_>,
     rule: &FoundRule,
 ) -> Result<RuleEntry, AllocError> {
-    let mut entry = bare_entry(alloc, table, course, rule)?;
-    complete(alloc, table, course, rule, &mut entry)?;
+    let mut entry = bare_entry(alloc, table, inquiry, rule)?;
+    complete(alloc, table, inquiry, rule, &mut entry)?;
     Ok(entry)
 }
 
@@ -119,12 +119,12 @@ fn rule_entry(
 fn rule_entries(
     alloc: Global,
     table: &Table,
-    course: Course<'_>,
+    inquiry: Inquiry<'_>,
     found: &Found,
 ) -> Result<Vec<RuleEntry>, AllocError> {
     let mut rules = Vec::new(alloc);
     for rule in found.rules.as_slice() {
-        rules.push(rule_entry(alloc, table, course, rule)?)?;
+        rules.push(rule_entry(alloc, table, inquiry, rule)?)?;
     }
     Ok(rules)
 }
@@ -160,12 +160,12 @@ fn answer_of(
 /// `AllocError` where memory was refused.
 pub(crate) fn rules_answer(
     alloc: Global,
-    course: Course<'_>,
+    inquiry: Inquiry<'_>,
     found: &Found,
     counts: &[MatchCount],
 ) -> Result<Answer, AllocError> {
-    let table = course.dump.table();
-    let rules = rule_entries(alloc, table, course, found)?;
-    let open = open_entries(alloc, course.open, counts)?;
-    answer_of(alloc, course.form, found, rules, open)
+    let table = inquiry.dump.table();
+    let rules = rule_entries(alloc, table, inquiry, found)?;
+    let open = open_entries(alloc, inquiry.open, counts)?;
+    answer_of(alloc, inquiry.form, found, rules, open)
 }

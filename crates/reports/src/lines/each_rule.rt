@@ -5,7 +5,7 @@ use crate::lines::packet_line::put_packet;
 use crate::lines::reason_line::put_reason;
 use crate::lines::rule_line::put_rule;
 use crate::lines::tally::{put_coverage, put_tally};
-use audits::{Course, Form, Found, FoundRule, Known};
+use audits::{Form, Found, FoundRule, Inquiry, Known};
 use fields::{Tap, Words, WriteFailed};
 use questions::Need;
 use rulesets::MatchCount;
@@ -37,13 +37,13 @@ fn comment_of(form: Form<'_>) -> &'static [u8] {
 
 // Writes a packet that matches a rule, and the answers under which it does. A session cannot be given these, so that there the packet is a comment.
 fn put_live<W: Write>(
-    course: Course<'_>,
+    inquiry: Inquiry<'_>,
     words: &Words,
     given: &[Need],
     output: &mut Tap<W>,
 ) -> Result<(), WriteFailed> {
-    let before = comment_of(course.form);
-    put_if(course.open, before, given, output)?;
+    let before = comment_of(inquiry.form);
+    put_if(inquiry.open, before, given, output)?;
     if !given.is_empty() {
         output.put(before)?;
     }
@@ -54,20 +54,20 @@ fn put_live<W: Write>(
 // Writes what is known of a rule: its line, and the packet that matches it or why it is dead.
 fn put_found<W: Write>(
     table: &Table,
-    course: Course<'_>,
+    inquiry: Inquiry<'_>,
     rule: &FoundRule,
     output: &mut Tap<W>,
 ) -> Result<(), WriteFailed> {
-    let Some(before) = words_before(course.form, &rule.known) else {
+    let Some(before) = words_before(inquiry.form, &rule.known) else {
         return Ok(());
     };
     put_rule(table, before, rule.at, output)?;
-    put_asked(course.open, course.dump.asked_by(rule.at), output)?;
+    put_asked(inquiry.open, inquiry.dump.asked_by(rule.at), output)?;
     output.put(b"\n")?;
     match &rule.known {
-        Known::Live(words, given) => put_live(course, words, given.as_slice(), output),
+        Known::Live(words, given) => put_live(inquiry, words, given.as_slice(), output),
         Known::Dead(Some(reason)) => put_reason(table, rule.at.chain, reason, output),
-        Known::Covered(given) => put_if(course.open, b"", given.as_slice(), output),
+        Known::Covered(given) => put_if(inquiry.open, b"", given.as_slice(), output),
         Known::Unmet => output.put(b"  no answers meet its conditions\n"),
         Known::Dead(None) | Known::Unclear => Ok(()),
     }
@@ -79,19 +79,19 @@ fn put_found<W: Write>(
 ///
 /// `WriteFailed` where a write failed.
 pub(crate) fn put_rules<W: Write>(
-    course: Course<'_>,
+    inquiry: Inquiry<'_>,
     found: &Found,
     counts: &[MatchCount],
     output: &mut Tap<W>,
 ) -> Result<(), WriteFailed> {
-    let table = course.dump.table();
+    let table = inquiry.dump.table();
     for rule in found.rules.as_slice() {
-        put_found(table, course, rule, output)?;
+        put_found(table, inquiry, rule, output)?;
     }
-    match course.form {
+    match inquiry.form {
         Form::Dead => put_tally(&found.tally, output)?,
         Form::Tests => {}
         Form::Cover(_) => put_coverage(&found.tally, output)?,
     }
-    put_open(course.open, counts, comment_of(course.form), output)
+    put_open(inquiry.open, counts, comment_of(inquiry.form), output)
 }
