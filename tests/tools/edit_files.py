@@ -1,5 +1,5 @@
-"""The edits of all crates, as tools/edits reads them, and rows of files that aren't as tools/crates/edit_files.py says: each has to be refused, with the
-file and the line.
+"""The edits of all crates, as tools/edits reads them: each can be made. And rows of files that aren't as tools/crates/edit_files.py says: each has to be
+refused, with the file and the line.
 """
 
 import pytest
@@ -7,7 +7,7 @@ import pytest
 from commands.crates import uses_of
 from tests import ROOT
 from tests.shared.rows import write
-from tools.crates.edit_files import Edit, Malformed, edits_of
+from tools.crates.edit_files import Edit, Malformed, edits_of, sources
 
 # A crate, whose file right.edits each row has.
 FILES = {
@@ -66,7 +66,8 @@ def read(folder, files):
 
 @pytest.mark.parametrize("crate", uses_of(ROOT))
 def test_crate(crate):
-    edits_of(ROOT, crate)
+    texts = sources(f"{ROOT}/crates/{crate}")
+    assert [(edit.name, trouble) for edit in edits_of(ROOT, crate) if (trouble := edit.apply(dict(texts)))] == []
 
 
 @pytest.mark.parametrize("files", [{"further-edits/right.edits": WELL}, {f"must-fail/{edit.name}.edit": edit.text() for edit in READ}],
