@@ -14,6 +14,7 @@ Pictures of the views go to the folder of `--pictures`, where one is given.
 
 import base64
 import concurrent.futures
+import contextlib
 import json
 import os
 import pathlib
@@ -25,15 +26,14 @@ import pytest
 
 from tests import ROOT
 from tests.drawn.workloads import of_kind, restore
-from tests.page.browsing import given, planted, views
+from tests.page.browsing import given, views
 from tests.page.browsing.calls import Call, in_page, on_machine
 from tests.page.browsing.chromium import Chromium
-from tests.page.browsing.failure import BrowserFailure
+from tests.page.browsing.browser import BrowserFailure
 from tests.page.browsing.firefox import Firefox
 from tests.page.browsing.served import SENDING, Server
-from tests.shared.rows import same
-from tools.packing.programs import PROGRAMS, told
-from tools.packing.version import find_version
+from tests.shared.rows import same, write
+from tools.packing.programs import PROGRAMS, find_version, told
 from tools.paging.kit import Kit, call
 from tools.paging.made import make_page
 from tools.paging.wasm import COMPILING, OWN, linked, machine
@@ -68,17 +68,28 @@ pub extern "C" fn room(alloc: Global, bytes: usize) -> usize {
     }
 }
 """
+# Faults that are planted in what stands between a program and the page: of web/machine the file, a text of it, and the text that takes its place.
+MACHINE = {
+    "a block is given twice": ("heap.c", "    waiting[size] = block->next;\n", ""),
+    "a block has no room": ("heap.c", "return (size % 4 + 5) << (size / 4 + 3);", "return (size % 4 + 4) << (size / 4 + 3);"),
+    "bytes are lost where a block moves": ("heap.c", "have < wanted ? have : wanted", "have < wanted ? have / 2 : wanted"),
+    "memory is there without end": ("heap.c", "if (!reaches(after)) return 0;\n  block = ", "reaches(after);\n  block = "),
+    "a carry is lost": ("wide.c", "(cross >> 32) + (crossed >> 32)", "(cross >> 32)"),
+    "bits are lost where a number is shifted": (
+        "wide.c", "from(it.low >> count | it.high << (64 - count), it.high >> count)", "from(it.low >> count, it.high >> count)"),
+}
+WORKER = {
+    "a status is lost": ("const status = program.exports.main(0, 0n);", "const status = program.exports.main(0, 0n) & 2;"),
+    "a file is read short": ("file.bytes.subarray(file.at, file.at + length)", "file.bytes.subarray(file.at, Math.min(file.at + length, 4000))"),
+    "output is told before it is whole": ("parts.push(bytes);", "parts[0] = bytes;"),
+    "words are told in another order": ("const word = words[Number(number)];", "const word = words[words.length - Number(number)];"),
+    "messages are told as output": ("messages = joined(open.written.get(2))", "messages = joined(open.written.get(1))"),
+    "a file that isn't there is empty": ("const bytes = this.named.get(name);", "const bytes = this.named.get(name) ?? new Uint8Array();"),
+}
 
 
 def read(path):
     return pathlib.Path(path).read_text(encoding="utf-8")
-
-
-def dumps():
-    """The dumps of examples, and packets for them."""
-    folder = os.path.join(ROOT, "examples")
-    found = {name: given.read(os.path.join(folder, name)) for name in sorted(os.listdir(folder)) if name.endswith(".rules")}
-    return found, given.read(os.path.join(folder, "office.packets"))
 
 
 @pytest.fixture(scope="module")
@@ -91,9 +102,8 @@ def page(proved):
 
 @pytest.fixture(scope="module")
 def page_path(page, shared_folder):
-    path = os.path.join(shared_folder, "iptsim.html")
-    pathlib.Path(path).write_text(page, encoding="utf-8")
-    return path
+    write(shared_folder, {"iptsim.html": page.encode()})
+    return os.path.join(shared_folder, "iptsim.html")
 
 
 @pytest.fixture(scope="module")
@@ -104,23 +114,19 @@ def programs(iptsim, iptaudit):
 @pytest.fixture(scope="module")
 def asked(programs):
     """All calls, and what comes of them on this machine."""
-    found, packets = dumps()
-    every = [*given.of_cases(), *given.of_guide(programs), *given.of_dumps(found, packets), *given.of_words()]
+    examples = pathlib.Path(ROOT, "examples")
+    dumps, packets = {path.name: path.read_bytes() for path in sorted(examples.glob("*.rules"))}, (examples / "office.packets").read_bytes()
+    every = [*given.of_cases(), *given.of_guide(programs), *given.of_dumps(dumps, packets), *given.of_words()]
     with concurrent.futures.ThreadPoolExecutor(2) as pool:
         return every, list(pool.map(lambda each: on_machine(programs, each), every))
 
 
 @pytest.fixture(scope="module", params=[pytest.param(name, marks=pytest.mark.xdist_group(f"page in {name}")) for name in BROWSERS])
 def started(request):
-    """A browser, in a folder of its own."""
     if not shutil.which(request.param):
         pytest.skip(f"{request.param} isn't there")
-    with tempfile.TemporaryDirectory() as folder:
-        browser = BROWSERS[request.param](folder)
-        try:
-            yield browser
-        finally:
-            browser.close()
+    with tempfile.TemporaryDirectory() as folder, contextlib.closing(BROWSERS[request.param](folder)) as browser:
+        yield browser
 
 
 @pytest.fixture
@@ -139,7 +145,6 @@ def chromium(browser):
 
 
 def test_calls(browser, asked):
-    """The calls in the page beside those on this machine."""
     for each, one, other in zip(*asked, in_page(browser, asked[0])):
         same((one.status, one.output, one.messages), (other.status, other.output, other.messages), f"{browser.name}: {each.name}")
 
@@ -161,15 +166,12 @@ def test_full_chain(browser):
 
 def test_sending(browser, page):
     """The page is asked for once, and nothing else is."""
-    server = Server(page.encode())
-    try:
+    with contextlib.closing(Server(page.encode())) as server:
         browser.open(server.address)
         for answer, name in zip(in_page(browser, [Call("version", name, ["--version"], {}, b"") for name in PROGRAMS]), PROGRAMS):
             assert (answer.status, answer.output) == (0, f"{name} {told(find_version(ROOT))}\n".encode())
         passed = browser.evaluate(SENDING % server.root)
         assert (passed, server.asked) == ("", ["/iptsim.html"])
-    finally:
-        server.close()
 
 
 def machine_trial(kit, sources, work):
@@ -193,20 +195,32 @@ def test_views(browser, programs, page_path, pytestconfig):
     views.check(browser, programs, page_path, pytestconfig.getoption("pictures"))
 
 
-@pytest.mark.parametrize("name", planted.MACHINE)
+def replaced(text, old, new):
+    if text.count(old) != 1:
+        raise AssertionError(f"a planted fault stands in {text.count(old)} places: {old}")
+    return text.replace(old, new)
+
+
+def planted_machine(sources, name, folder):
+    file, old, new = MACHINE[name]
+    shutil.copytree(sources, folder, dirs_exist_ok=True)
+    path = pathlib.Path(folder, file)
+    path.write_text(replaced(path.read_text(encoding="utf-8"), old, new), encoding="utf-8")
+    return folder
+
+
+@pytest.mark.parametrize("name", MACHINE)
 def test_planted_in_machine(name, chromium, folder):
-    sources = planted.planted_machine(os.path.join(WEB, "machine"), name, os.path.join(folder, "machine"))
-    try:
+    sources = planted_machine(os.path.join(WEB, "machine"), name, os.path.join(folder, "machine"))
+    with contextlib.suppress(BrowserFailure):
         assert chromium.evaluate(machine_trial(Kit(), sources, folder)) != "[]"
-    except BrowserFailure:
-        pass
 
 
-@pytest.mark.parametrize("name", planted.WORKER)
+@pytest.mark.parametrize("name", WORKER)
 def test_planted_in_worker(name, chromium, asked, folder):
-    path, (calls, due) = os.path.join(folder, "planted.html"), few_of(*asked)
-    with open(path, "w", encoding="utf-8") as file:
-        file.write(make_page(ROOT, find_version(ROOT), worker=planted.planted_worker(read(os.path.join(WEB, "worker.js")), name)))
+    path, (calls, due) = pathlib.Path(folder, "planted.html"), few_of(*asked)
+    text = make_page(ROOT, find_version(ROOT), worker=replaced(read(os.path.join(WEB, "worker.js")), *WORKER[name]))
+    path.write_text(text, encoding="utf-8")
     chromium.open(f"file://{path}")
     assert any(one != other for one, other in zip(due, in_page(chromium, calls)))
 
@@ -222,8 +236,7 @@ def few_of(calls, due):
 def test_own_way(folder):
     """The toolchain refuses to link a heap into WebAssembly: when it doesn't, tools/page can take its own way."""
     kit = Kit()
-    os.mkdir(os.path.join(folder, "src"))
-    pathlib.Path(os.path.join(folder, "src", "lib.rt")).write_text(ROOM, encoding="utf-8")
+    write(folder, {"src/lib.rt": ROOM.encode()})
     ended = subprocess.run([kit.part("bin", "rattle"), "build", "--crate-name", "room", "--crate-type", "staticlib", "--target",
                             "wasm64-unknown-unknown", "src/lib.rt", "--extern", f"std={kit.part('rlibs', 'std.rlib')}", "-L",
                             f"dependency={kit.part('rlibs')}", "--antt-project", kit.part("rattle", "logic", "antt-project.json"),
@@ -232,11 +245,9 @@ def test_own_way(folder):
     assert ended.returncode != 0 and [word for word in OWN_WAY if word not in ended.stdout] == []
 
 
+@pytest.mark.skipif(not shutil.which("node"), reason="node isn't there")
 @pytest.mark.parametrize("name", sorted(os.listdir(os.path.join(WEB, "tests"))))
 def test_texts(name):
     """The page's reading and splitting of texts, tried without a browser."""
-    if shutil.which("node") is None:
-        pytest.skip("node isn't there")
-    ended = subprocess.run(["node", "--test", os.path.join(WEB, "tests", name)], stdin=subprocess.DEVNULL, stdout=subprocess.PIPE,
-                           stderr=subprocess.STDOUT, text=True, check=False)
-    assert ended.returncode == 0, ended.stdout
+    ended = subprocess.run(["node", "--test", os.path.join(WEB, "tests", name)], stdin=subprocess.DEVNULL, capture_output=True, text=True, check=False)
+    assert ended.returncode == 0, ended.stdout + ended.stderr

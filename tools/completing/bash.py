@@ -1,10 +1,15 @@
 """The completion for bash: one file for all commands."""
 
-import os
+import pathlib
 
 from tools.completing.table import subcommands
 
-FORM = os.path.join(os.path.dirname(os.path.abspath(__file__)), "form.bash")
+FORM = pathlib.Path(__file__).with_name("form.bash")
+# The text of the file of another command, by whose name bash-completion looks for it.
+POINTING = """# Completion for bash of {name}: it stands in the file of {first}. tools/completions writes this file.
+
+. "${{BASH_SOURCE[0]%/*}}/{first}"
+"""
 
 
 def dots(repeats):
@@ -23,22 +28,13 @@ def value_rows(values):
     """A row for all names of files, and one for each other name for which something is offered."""
     files = " | ".join(name for name, offers in values.items() if offers == "files")
     yield f'    {files}) _iptsim_files "$2" ;;'
-    for name, offers in values.items():
-        if offers and offers != "files":
-            yield f'    {name}) _iptsim_words "$2" {" ".join(offers)} ;;'
-
-
-def pointing(name, first):
-    """The text of the file of another command, by whose name bash-completion looks for it."""
-    return f"# Completion for bash of {name}: it stands in the file of {first}. tools/completions writes this file.\n\n. \"${{BASH_SOURCE[0]%/*}}/{first}\"\n"
+    yield from (f'    {name}) _iptsim_words "$2" {" ".join(offers)} ;;' for name, offers in values.items() if offers and offers != "files")
 
 
 def written(commands, values):
-    """The text of the file that has the completion of all commands."""
     forms = [form_row(f"{command.name} {name}".strip(), form, [] if name else subcommands(command))
              for command in commands.values() for name, form in command.forms.items()]
-    with open(FORM, encoding="utf-8") as file:
-        text = file.read()
+    text = FORM.read_text(encoding="utf-8")
     for word, lines in (("FORMS", forms), ("VALUES", value_rows(values))):
         text = text.replace(f"\n{word}\n", "\n" + "\n".join(lines) + "\n")
     return text.replace("complete -F _iptsim COMMANDS", "complete -F _iptsim " + " ".join(commands))

@@ -16,14 +16,11 @@ BASH, ZSH, FISH = "share/bash-completion/completions", "share/zsh/site-functions
 
 
 def files(commands, values):
-    """The text of each file."""
     first, *others = commands
     yield f"{BASH}/{first}", bash.written(commands, values)
-    for name in others:
-        yield f"{BASH}/{name}", bash.pointing(name, first)
+    yield from ((f"{BASH}/{name}", bash.POINTING.format(name=name, first=first)) for name in others)
     yield f"{ZSH}/_{first}", zsh.written(commands, values)
-    for command in commands.values():
-        yield f"{FISH}/{command.name}.fish", fish.written(command, values)
+    yield from ((f"{FISH}/{command.name}.fish", fish.written(command, values)) for command in commands.values())
 
 
 def differing(due):

@@ -15,15 +15,12 @@ def offer(value, values):
     return "-F" if offers == "files" else f"-f -a {quoted(' '.join(offers))}" if offers else "-f"
 
 
-def option_row(option, values):
-    short = f"-s {option.short} " if option.short else ""
-    value = f"-r {offer(option.value, values)} " if option.value else ""
-    return f"{short}-l {option.name[2:]} {value}-d {quoted(option.text)}"
-
-
 def form_rows(form, values):
     """The options of a form, and what may stand in its places."""
-    yield from (option_row(option, values) for option in form.options)
+    for option in form.options:
+        short = f"-s {option.short} " if option.short else ""
+        value = f"-r {offer(option.value, values)} " if option.value else ""
+        yield f"{short}-l {option.name[2:]} {value}-d {quoted(option.text)}"
     yield from sorted({offer(place.value, values) for place in form.places if values[place.value]})
 
 

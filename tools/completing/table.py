@@ -1,7 +1,7 @@
 """The table of commands."""
 
 import collections
-import os
+import pathlib
 
 # A command, by its name, with its forms: one for each subcommand, and that without a subcommand under the empty name.
 Command = collections.namedtuple("Command", "name text forms")
@@ -16,11 +16,10 @@ HELP = Option("--help", "h", "", False, "Print help")
 
 def rows(root):
     """The rows of the table, each with four cells."""
-    with open(os.path.join(root, "share", "commands.tsv"), encoding="utf-8") as file:
-        for line in file:
-            cells = line.rstrip("\n").split("\t")
-            if cells[0] and not line.startswith("#"):
-                yield cells + [""] * (4 - len(cells))
+    for line in pathlib.Path(root, "share", "commands.tsv").read_text(encoding="utf-8").splitlines():
+        cells = line.split("\t")
+        if cells[0] and not line.startswith("#"):
+            yield cells + [""] * (4 - len(cells))
 
 
 def without_dots(word):

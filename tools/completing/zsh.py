@@ -19,7 +19,6 @@ def quoted(text):
 
 
 def action(value, values):
-    """How a value is completed."""
     offers = values[value]
     if offers == "files":
         return "_files"
@@ -40,14 +39,10 @@ def option_specs(option, values):
     return [quoted(f"{before}{name}{'=' if value and name == option.name else ''}[{described(option.text)}]{value}") for name in names]
 
 
-def place_specs(form, values):
-    for number, place in enumerate(form.places, 1):
-        yield quoted(f"{'*' if place.repeats else number}:{place.value}:{action(place.value, values)}")
-
-
 def arguments(form, values, before=(), after=()):
     specs = [spec for option in form.options for spec in option_specs(option, values)]
-    return " ".join(["_arguments", *before, *specs, *place_specs(form, values), *after])
+    specs += [quoted(f"{'*' if place.repeats else number}:{place.value}:{action(place.value, values)}") for number, place in enumerate(form.places, 1)]
+    return " ".join(["_arguments", *before, *specs, *after])
 
 
 def with_subcommands(command, values):

@@ -113,12 +113,6 @@ def read_lines(name, lines, file):
     return Edit(name, function, alone, tuple(pairs)), troubles
 
 
-def read_edit(path):
-    """The edit of a file of must-fail/. Other comments, and what is wrong with it, are for `rt must-fail`."""
-    lines = FOR_SCRIPTS.sub("", read(path)).split("\n")
-    return read_lines(os.path.basename(path).removesuffix(".edit"), list(enumerate(lines, 1)), "")[0]
-
-
 def entries(text):
     """What a file of further-edits/ has: the number of each edit's first line, its name, and its other lines with their numbers. Lines before
     the first edit have no name."""
@@ -164,7 +158,9 @@ def edits_of(top, crate):
     folder, found, places, troubles = f"{top}/crates/{crate}", [], {}, []
     for path in paths_below(folder, "must-fail"):
         if path.endswith(".edit"):
-            found.append(read_edit(f"{folder}/{path}"))
+            # (other comments, and what is wrong with it, are for `rt must-fail`)
+            lines = FOR_SCRIPTS.sub("", read(f"{folder}/{path}")).split("\n")
+            found.append(read_lines(os.path.basename(path).removesuffix(".edit"), list(enumerate(lines, 1)), "")[0])
             places[found[-1].name] = path
     texts = sources(folder)
     for path in paths_below(folder, "further-edits"):

@@ -12,6 +12,7 @@ tried again.
 
 import hashlib
 import os
+import pathlib
 import re
 import shutil
 import subprocess
@@ -44,8 +45,7 @@ def sum_of(crate, deps, toolchain):
         for at, folders, files in os.walk(f"{ROOT}/crates/{crate}/{part}"):
             folders.sort()
             for name in sorted(files):
-                with open(f"{at}/{name}", "rb") as it:
-                    total.update(repr((at[len(ROOT) :], name, it.read())).encode())
+                total.update(repr((at[len(ROOT) :], name, pathlib.Path(at, name).read_bytes())).encode())
     for below in deps[crate]:
         total.update((sum_of(below, deps, toolchain) if below in deps else below).encode())
     return total.hexdigest()
@@ -78,8 +78,8 @@ class Bench:
 
     def check(self, *words):
         """Checks the copy, and returns what is said of each function, and all that is said."""
-        how = {"stdin": subprocess.DEVNULL, "stdout": subprocess.PIPE, "stderr": subprocess.STDOUT, "errors": "replace"}
-        said = subprocess.run(["rt", "check", "--jobs", "1", *words], cwd=self.folder, **how).stdout
+        said = subprocess.run(["rt", "check", "--jobs", "1", *words], cwd=self.folder, stdin=subprocess.DEVNULL, stdout=subprocess.PIPE,
+                              stderr=subprocess.STDOUT, errors="replace").stdout
         return dict(re.findall(r"^(?:fn|impl) (\S+): (.*)$", said, re.M)), said
 
     def prove(self):
@@ -93,8 +93,7 @@ class Bench:
 
     def write(self, texts):
         for path, text in texts.items():
-            with open(f"{self.folder}/{path}", "w", encoding="utf-8") as it:
-                it.write(text)
+            pathlib.Path(self.folder, path).write_text(text, encoding="utf-8")
 
     def planted(self, edits):
         """Returns an edit of a function that these edits leave, which changes nothing: it adds a comment to its file."""
@@ -121,16 +120,12 @@ class Bench:
         finally:
             self.write(self.texts)
 
-    def words_for(self, edits):
-        """Returns the words that have the functions of edits checked alone. Of an impl only a check of the whole crate tells."""
-        if any(it.function not in self.functions for it in edits):
-            return []
-        return [it for edit in edits for it in ("--only", edit.function)]
-
     def try_round(self, edits):
         """Makes these edits, and returns what is said of the function of each, or None where nothing is known of the round."""
         made = [self.planted(edits), *edits]
-        said, text = self.check_edited(made, *self.words_for(made))
+        # (of an impl only a check of the whole crate tells, and else the functions are checked alone)
+        alone = all(it.function in self.functions for it in made)
+        said, text = self.check_edited(made, *(it for edit in made for it in ("--only", edit.function) if alone))
         outcome = judged(said.get(made[0].function, "nothing"))
         if outcome == BLOCKED:
             self.callers.add(made[0].function)
@@ -141,11 +136,6 @@ class Bench:
         for function in functions:
             self.blocks.setdefault(function, set()).update(in_the_way(function, said, functions))
         return {edit: said.get(edit.function, "nothing") for edit in edits}, text
-
-    def why_unread(self, edit):
-        """Says why the crate can't be read with this edit, if it can't."""
-        _, text = self.check_edited([edit], "--only", "")
-        return None if FINISHED.search(text) else text
 
     def next_round(self, left):
         """Returns edits that can be made side by side: of one function each, of which none stands in another's way."""
@@ -212,12 +202,12 @@ def rounds(bench, edits, tell):
         at_once = bench.next_round(left)
         said, text = bench.try_round(at_once)
         if said is None and not FINISHED.search(text):
-            unread = {it: bench.why_unread(it) for it in at_once}
-            for edit, why in unread.items():
-                if why:
-                    left.remove(edit)
-                    tell(edit, False, f"BAD EDIT: it can't be read\n{why}")
-            if any(unread.values()):
+            alone = {it: bench.check_edited([it], "--only", "")[1] for it in at_once}
+            unread = [it for it in at_once if not FINISHED.search(alone[it])]
+            for edit in unread:
+                left.remove(edit)
+                tell(edit, False, f"BAD EDIT: it can't be read\n{alone[edit]}")
+            if unread:
                 continue
         while said is None and len(at_once) > 1:
             at_once = at_once[: len(at_once) // 2]
@@ -236,21 +226,11 @@ def rounds(bench, edits, tell):
             tell(edit, outcome == REFUSED, f"{edit.function}: {verdict}: {why}")
 
 
-def lanes():
-    """Returns how many checks may run side by side."""
-    with open("/proc/meminfo", encoding="utf-8") as it:
-        free = int(re.search(r"^MemAvailable:\s+(\d+)", it.read(), re.M)[1])
-    return max(1, min(len(os.sched_getaffinity(0)), free // CHECK_KIB))
-
-
 def try_crate(crate, edits, total, room):
     """Tries the edits of a crate that aren't known to be refused, and returns how many were refused and how many weren't."""
-    kept = f"{ROOT}/crates/{crate}/out/refused-edits"
+    kept = pathlib.Path(ROOT, "crates", crate, "out", "refused-edits")
     sums = {it: hashlib.sha256((total + it.name + it.text()).encode()).hexdigest() for it in edits}
-    known = set()
-    if os.path.isfile(kept):
-        with open(kept, encoding="utf-8") as it:
-            known = set(it.read().split())
+    known = set(kept.read_text(encoding="utf-8").split()) if kept.is_file() else set()
     left, failed = [it for it in edits if sums[it] not in known], []
     if len(left) < len(edits):
         print(f"edits: {crate}: {len(edits) - len(left)} of {len(edits)} were refused before, over the same text", flush=True)
@@ -258,8 +238,8 @@ def try_crate(crate, edits, total, room):
     def tell(edit, is_refused, text):
         print(f"{crate}/{edit.name}: {REFUSED if is_refused else 'FAILED'}: {text}", flush=True)
         if is_refused:
-            os.makedirs(os.path.dirname(kept), exist_ok=True)
-            with open(kept, "a", encoding="utf-8") as it:
+            kept.parent.mkdir(exist_ok=True)
+            with kept.open("a", encoding="utf-8") as it:
                 it.write(f"{sums[edit]}\n")
         else:
             failed.append(edit)
@@ -294,7 +274,9 @@ def main():
         raise SystemExit(f"edits: no crate {lacking[0]} has edits")
     crates = sorted(names or every, key=lambda it: -len(edits[it]))
     toolchain = subprocess.run(["rt", "version"], stdout=subprocess.PIPE, text=True, check=True).stdout
-    with tempfile.TemporaryDirectory(prefix="edits-") as room, ThreadPoolExecutor(lanes()) as pool:
+    free = int(re.search(r"^MemAvailable:\s+(\d+)", pathlib.Path("/proc/meminfo").read_text(encoding="utf-8"), re.M)[1])
+    lanes = max(1, min(len(os.sched_getaffinity(0)), free // CHECK_KIB))
+    with tempfile.TemporaryDirectory(prefix="edits-") as room, ThreadPoolExecutor(lanes) as pool:
         runs = [pool.submit(try_crate, it, edits[it], sum_of(it, deps, toolchain), room) for it in crates]
         results = [it.result() for it in runs]
     refused, others = (sum(column) for column in zip(*results))
@@ -302,5 +284,4 @@ def main():
     return 1 if others else 0
 
 
-if __name__ == "__main__":
-    sys.exit(main())
+sys.exit(main())

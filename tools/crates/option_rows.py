@@ -37,7 +37,6 @@ def role(owner, option):
 
 
 def kind(owner):
-    """What a match or a target is to the program."""
     if owner.kind == "match" and is_known(owner):
         return "alone" if "alone" in owner.notes else "known"
     if owner.kind == "match":
@@ -45,29 +44,19 @@ def kind(owner):
     return "logs" if owner.kind == "passes" and is_known(owner) else owner.kind
 
 
-def line(*words):
-    return " ".join(words) + "\n"
-
-
-def option_lines():
-    for owner in EXTENSIONS:
-        for option in () if owner.kind == "command" else owner.options:
-            yield line(owner.name.decode(), role(owner, option), str(len(option.values)), *(name.decode() for name in option.names))
-
-
-def extension_lines():
-    for owner in EXTENSIONS:
-        if owner.kind not in ("rule", "command"):
-            yield line(owner.name.decode(), kind(owner), *(word.decode() for word in owner.protocols + owner.sets))
+def lines(rows):
+    return "".join(" ".join(words) + "\n" for words in rows)
 
 
 def written():
-    """The text of the file."""
-    return FORM.format(options="".join(option_lines()), extensions="".join(extension_lines()))
+    options = ([owner.name.decode(), role(owner, option), str(len(option.values)), *(name.decode() for name in option.names)]
+               for owner in EXTENSIONS if owner.kind != "command" for option in owner.options)
+    named = ([owner.name.decode(), kind(owner), *(word.decode() for word in owner.protocols + owner.sets)]
+             for owner in EXTENSIONS if owner.kind not in ("rule", "command"))
+    return FORM.format(options=lines(options), extensions=lines(named))
 
 
 def is_written(root):
-    """Whether the file is there, with this text."""
     path = pathlib.Path(root, PLACE)
     return path.exists() and path.read_text(encoding="utf-8") == written()
 

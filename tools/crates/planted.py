@@ -41,7 +41,6 @@ KEPT = os.path.join(TOOLS, "out")
 
 
 def read_bugs():
-    """The bugs by their names."""
     found = {}
     _, *named = entries(read(os.path.join(TOOLS, "crates", "bugs.diff")))
     for _, name, numbered in named:
@@ -50,11 +49,6 @@ def read_bugs():
         old, new = ("".join(line[1:] + "\n" for line in lines if line[0] in (" ", sign)) for sign in "-+")
         found[name] = Bug(name, old=old, new=new, **told)
     return found
-
-
-def misplaced(bug):
-    """Whether the lines of a bug don't stand in the sources just once."""
-    return read(os.path.join(ROOT, "crates", bug.file)).count(bug.old) != 1
 
 
 def built(bug, folder):
@@ -105,29 +99,25 @@ def tried(bug, is_quick, keeps):
     return name == bug.seen, f"{bug.name}: seen by {name}: {line}"
 
 
-def read_words(bugs):
-    """The words, and the bugs that they name."""
+def main():
+    known = read_bugs()
     reader = parser("planted", __doc__)
     reader.add_argument("--list", action="store_true", help="print the bugs, and compare their lines with the sources, but plant none")
-    reader.add_argument("--only", metavar="NAME", nargs="+", choices=list(bugs), help="plant these alone")
+    reader.add_argument("--only", metavar="NAME", nargs="+", choices=list(known), help="plant these alone")
     reader.add_argument("--quick", action="store_true", help="try each bug on the cases alone that are named with it, where some are")
     reader.add_argument("--jobs", metavar="N", type=int, default=1, help="plant so many side by side")
     reader.add_argument("--keep", action="store_true", help="leave the programs in tools/out, by the names of the bugs")
     words = reader.parse_args()
-    return words, [bugs[name] for name in words.only or bugs if words.only or words.list or bugs[name].seen in SCRIPTS]
-
-
-def main():
-    words, bugs = read_words(read_bugs())
-    wrong = [bug for bug in bugs if misplaced(bug)]
+    bugs = [known[name] for name in words.only or known if words.only or words.list or known[name].seen in SCRIPTS]
+    wrong = [bug for bug in bugs if read(os.path.join(ROOT, "crates", bug.file)).count(bug.old) != 1]
     for bug in wrong:
         print(f"{bug.name}: its lines don't stand just once in crates/{bug.file}", file=sys.stderr)
+    for bug in bugs if words.list else ():
+        print(f"{bug.name}: {bug.about}; seen by {bug.seen}")
     if words.list or wrong:
-        for bug in bugs if words.list else ():
-            print(f"{bug.name}: {bug.about}; seen by {bug.seen}")
         return 1 if wrong else 0
+    ends = []
     with concurrent.futures.ThreadPoolExecutor(words.jobs) as pool:
-        ends = []
         for is_right, line in pool.map(lambda bug: tried(bug, words.quick, words.keep), bugs):
             print(line, flush=True)
             ends.append(is_right)

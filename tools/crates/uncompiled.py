@@ -41,14 +41,10 @@ def problem(name, file, old, new, said):
     return None if re.search(said, ended.stdout) else f"{name}: it is refused for another reason:\n{ended.stdout}"
 
 
-def main():
-    parser("uncompiled", __doc__).parse_args()
-    found = [found for found in (problem(*body) for body in BODIES) if found]
-    for line in found:
-        print("uncompiled: " + line, file=sys.stderr)
-    if not found:
-        print(f"uncompiled: {len(BODIES)} wrong bodies don't compile")
-    return 1 if found else 0
-
-
-sys.exit(main())
+parser("uncompiled", __doc__).parse_args()
+found = list(filter(None, (problem(*body) for body in BODIES)))
+for line in found:
+    print("uncompiled: " + line, file=sys.stderr)
+if found:
+    sys.exit(1)
+print(f"uncompiled: {len(BODIES)} wrong bodies don't compile")

@@ -1,14 +1,22 @@
-"""Whether the numbers that documents state are those of the repository: crates, functions, edits, cases and the like."""
+"""Whether the numbers that documents state are those of the repository: crates, functions, edits, cases and the like; and whether all Markdown
+documents and manual pages together are short enough, as `wc -w` counts words."""
 
 import functools
+import operator
 import re
 
 from tools.crates import edit_files
-from tools.documenting import length, markdown, tree
+from tools.documenting import markdown, tree
 
-WORDS = "zero one two three four five six seven eight nine ten eleven twelve thirteen fourteen fifteen sixteen seventeen eighteen nineteen twenty"
+MOST_WORDS = 25_000
+WORDS = "zero one two three four five six seven eight nine ten eleven twelve thirteen fourteen fifteen sixteen seventeen eighteen nineteen twenty".split()
 ABOUT = "(?P<about>some |about |around |more than |over |at least |at most |up to |fewer than )?"
-NUMBER = rf"{ABOUT}(?P<n>\d[\d,]*|{'|'.join(WORDS.split())})"
+NUMBER = rf"{ABOUT}(?P<n>\d[\d,]*|{'|'.join(WORDS)})"
+# Whether a stated number and the counted one agree, by what stands before it: by a tenth, or as a bound, and else exactly.
+AGREES = {
+    **dict.fromkeys(("some", "about", "around"), lambda stated, counted: abs(stated - counted) * 10 <= counted),
+    "more than": operator.lt, "over": operator.lt, "at least": operator.le, "at most": operator.ge, "up to": operator.ge, "fewer than": operator.gt,
+}
 FUNCTION = re.compile(r"(?m)^\s*(?:pub(?:\([^)]*\))? )?(?:const )?fn ")
 PUBLIC = re.compile(r"(?m)^\s*pub (?:const )?fn ")
 
@@ -19,7 +27,7 @@ def edits(folder, crate=r"\w+"):
     return sum(1 if path.endswith(".edit") else len(edit_files.HEADING.findall(tree.text(path))) for path in paths)
 
 
-@functools.lru_cache(maxsize=None)
+@functools.cache
 def matched(pattern, suffix, below):
     """How often a pattern occurs in the files of a kind below a path."""
     return sum(len(pattern.findall(tree.text(path))) for path in tree.files(suffix, below=below))
@@ -29,17 +37,9 @@ def functions(crate, pattern=FUNCTION):
     return matched(pattern, ".rt", f"crates/{crate}/src/")
 
 
-def cases():
-    return matched(re.compile("(?m)^case "), ".cases", "crates/cases/data/")
-
-
-def length_of_all(enum, path):
-    """How many variants the constant `ALL` of an enum has."""
-    return int(re.search(rf"const ALL: \[{enum}; (\d+)\]", tree.text(path))[1])
-
-
-def constant(name, path):
-    return int(re.search(rf"const {name}: usize = (\d+);", tree.text(path))[1])
+def constant(form, path):
+    """The number at the end of what a constant's declaration is to begin with."""
+    return int(re.search(form + r"(\d+)", tree.text(path))[1])
 
 
 OPTIONS = "crates/rules/src/options/option.rt"
@@ -57,46 +57,31 @@ COUNTED = (
     (rf"`further-edits/?` has {NUMBER}\b", lambda _: edits("further-edits")),
     (rf"edits of both folders,? {NUMBER}", lambda _: edits(r"[\w-]+")),
     (rf"{ABOUT}(?P<n>\d[\d,]+) edits\b", lambda _: {edits("must-fail"), edits("further-edits"), edits(r"[\w-]+")}),
-    (rf"{ABOUT}(?P<n>\d[\d,]{{2,}}) cases\b", lambda _: cases()),
+    (rf"{ABOUT}(?P<n>\d[\d,]{{2,}}) cases\b", lambda _: matched(re.compile("(?m)^case "), ".cases", "crates/cases/data/")),
     (rf"{NUMBER} files of cases", lambda _: len(tree.files(".cases"))),
-    (r"at most (?P<n>[\d,]{4,}) words", lambda _: length.MOST),
-    (rf"\b(?:the|all|each of the) {NUMBER} fields\b", lambda _: constant("FIELDS", "crates/fields/src/numbers/field.rt")),
-    (rf"\ball {NUMBER} options\b", lambda _: length_of_all("Opt", OPTIONS)),
+    (r"at most (?P<n>[\d,]{4,}) words", lambda _: MOST_WORDS),
+    (rf"\b(?:the|all|each of the) {NUMBER} fields\b", lambda _: constant("const FIELDS: usize = ", "crates/fields/src/numbers/field.rt")),
+    (rf"\ball {NUMBER} options\b", lambda _: constant(r"const ALL: \[Opt; ", OPTIONS)),
 )
 
 
-def number_of(text):
-    names = WORDS.split()
-    return names.index(text.lower()) if text.lower() in names else int(text.replace(",", ""))
+def of_line(line):
+    for pattern, count in COUNTED:
+        for match in re.finditer(pattern, line, re.IGNORECASE):
+            groups, word = match.groupdict(), match["n"].lower()
+            stated, counted = WORDS.index(word) if word in WORDS else int(word.replace(",", "")), count(groups)
+            counted = counted if isinstance(counted, set) else {counted}
+            agrees = AGREES.get((groups.get("about") or "").strip(), operator.eq)
+            if not any(agrees(stated, each) for each in counted):
+                yield f"{match[0]}: they are {' or '.join(map(str, sorted(counted)))}"
 
 
-def agrees(about, stated, counted):
-    """Whether a stated number is right: exactly, by a tenth where it says so, or as a bound."""
-    about = (about or "").strip()
-    if about in ("some", "about", "around"):
-        return abs(stated - counted) * 10 <= counted
-    if about in ("more than", "over"):
-        return stated < counted
-    if about == "at least":
-        return stated <= counted
-    if about in ("at most", "up to"):
-        return stated >= counted
-    if about == "fewer than":
-        return stated > counted
-    return stated == counted
+def of_length():
+    count = sum(len(tree.text(path).split()) for path in tree.files(".md") + tree.files(".1", below="docs/"))
+    return [f"docs: {count:,} words, and at most {MOST_WORDS:,} may be"] if count > MOST_WORDS else []
 
 
 def faults():
-    found = []
     for document in markdown.documents():
-        if document == "CHANGELOG.md":
-            continue
-        for number, line in markdown.prose(document):
-            for pattern, count in COUNTED:
-                for match in re.finditer(pattern, line, re.IGNORECASE):
-                    groups = match.groupdict()
-                    counted = count(groups)
-                    counted = counted if isinstance(counted, set) else {counted}
-                    if not any(agrees(groups.get("about"), number_of(groups["n"]), each) for each in counted):
-                        found.append(f"{document}:{number}: {match[0]}: they are {' or '.join(map(str, sorted(counted)))}")
-    return found
+        for number, line in markdown.prose(document) if document != "CHANGELOG.md" else ():
+            yield from (f"{document}:{number}: {fault}" for fault in of_line(line))

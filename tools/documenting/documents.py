@@ -31,15 +31,16 @@ import os
 import sys
 
 from tools import parser
-from tools.documenting import comments, counts, layout, length, links, markdown, names, places, planting, prose, reply, spelling, tree
+from tools.documenting import counts, layout, markdown, names, places, planting, prose, sources, tree
 from tools.documenting.pages import PAGES
 
-CHECKS = (links, places, layout, reply, names, counts, comments, length, spelling, prose)
+# The checks that need no markdown-it, and the others.
+PLAIN = (sources.faults, counts.of_length)
+CHECKS = (*PLAIN, names.of_links, places.faults, layout.faults, names.faults, counts.faults, prose.of_spelling, prose.faults)
 
 
 def check():
-    checks = CHECKS if markdown.MarkdownIt else (comments, length)
-    found = [fault for module in checks for fault in module.faults()]
+    found = [fault for each in (CHECKS if markdown.MarkdownIt else PLAIN) for fault in each()]
     if markdown.MarkdownIt:
         found += planting.faults(CHECKS)
     else:

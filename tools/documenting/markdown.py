@@ -1,6 +1,7 @@
 """The Markdown documents, by markdown-it: their prose without code, the names in backquotes, links and headings."""
 
 import functools
+import itertools
 import re
 
 from tools.documenting import tree
@@ -15,13 +16,13 @@ def documents():
     return tree.files(".md")
 
 
-@functools.lru_cache(maxsize=None)
-def tokens_of(text):
-    return tuple(MarkdownIt("commonmark").enable("table").parse(text))
-
-
 def tokens(path):
     return tokens_of(tree.text(path))
+
+
+@functools.cache
+def tokens_of(text):
+    return tuple(MarkdownIt("commonmark").enable("table").parse(text))
 
 
 def lines_of(path, *kinds):
@@ -67,15 +68,12 @@ def links(path):
     return [(number, piece.attrs.get("href") or piece.attrs["src"]) for number, piece in pieces(path) if piece.type in ("link_open", "image")]
 
 
-@functools.lru_cache(maxsize=None)
+@functools.cache
 def anchors(path):
     """The anchors of a document's headings, as forges make them."""
     found = set()
     for _, heading in texts(path, "heading"):
         text = re.sub(r"[^\w\- ]", "", "".join(piece.content for piece in heading).strip().lower()).replace(" ", "-")
-        name, number = text, 0
-        while name in found:
-            number += 1
-            name = f"{text}-{number}"
-        found.add(name)
+        names = itertools.chain([text], (f"{text}-{number}" for number in itertools.count(1)))
+        found.add(next(name for name in names if name not in found))
     return found

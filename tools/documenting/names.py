@@ -1,4 +1,5 @@
-"""Whether the paths and names in backquotes are there: paths in every document, names in those about the code."""
+"""Whether each relative link of a document leads to a file, and to a heading of it; and whether the paths and names in backquotes are there: paths in
+every document, names in those about the code."""
 
 import functools
 import os
@@ -18,32 +19,27 @@ SUFFIXES = ("", ".rt", ".antt", ".md", ".py")
 CODE = (".rt", ".antt", ".py", ".sh", ".c", ".cases", ".edit", ".edits", "crates.txt", ".tsv")
 
 
-@functools.lru_cache(maxsize=None)
+@functools.cache
 def all_paths():
-    """Every file and folder."""
     folders_above = (str(folder) for path in tree.all_files() for folder in pathlib.PurePath(path).parents)
     return {*tree.all_files(), *folders_above} - {"."}
 
 
-@functools.lru_cache(maxsize=None)
+@functools.cache
 def ends():
     """Every end of a path, with its suffix and without: `run/session` of `crates/sessions/src/run/session.rt`."""
-    found = set()
-    for path in all_paths():
-        parts = path.split("/")
-        for start in range(len(parts)):
-            end = "/".join(parts[start:])
-            found.update((end, os.path.splitext(end)[0]))
-    return found
+    parts = [path.split("/") for path in all_paths()]
+    found = {"/".join(part[start:]) for part in parts for start in range(len(part))}
+    return found | {os.path.splitext(end)[0] for end in found}
 
 
-@functools.lru_cache(maxsize=None)
+@functools.cache
 def folders():
     """The names of all folders below crates/, without the crates' own."""
     return {part for path in all_paths() if path.startswith("crates/") for part in os.path.dirname(path).split("/")[1:]}
 
 
-@functools.lru_cache(maxsize=None)
+@functools.cache
 def known():
     """Every name that stands in the code, the definitions, the proofs or the scripts, and the parts of their paths."""
     found = set()
@@ -56,12 +52,10 @@ def known():
 
 def is_top_path(word):
     """Whether a path that begins at the top of the repository is there; a test may stand without its suffix."""
-    if BUILT.search(word):
-        return True
     if "*" in word:
         pattern = re.compile(re.escape(word.rstrip("/")).replace(r"\*", "[^/]*") + "$")
-        return any(pattern.match(path) for path in all_paths())
-    return tree.exists(word) or word.startswith("tests/") and tree.exists(word + ".py")
+        return bool(BUILT.search(word)) or any(map(pattern.match, all_paths()))
+    return bool(BUILT.search(word)) or tree.exists(word) or word.startswith("tests/") and tree.exists(word + ".py")
 
 
 def is_inner_path(word, document):
@@ -76,27 +70,33 @@ def is_inner_path(word, document):
 
 def fault_of(word, document):
     """What is wrong with a name in backquotes, if anything is."""
+    lost = False
     if TOP.match(word):
         # A room of a crate may have the name of a folder at the top.
-        return None if is_top_path(word) or OF_CRATE.match(document) and is_inner_path(word, document) else f"{word} isn't there"
-    if not ABOUT_CODE.match(document):
-        return None
-    if "/" in word and PATH.match(word):
-        first = word.split("/")[0]
-        if first in folders() and "*" not in word and not tree.exists(word) and not is_inner_path(word, document):
-            return f"{word} isn't there"
-        return None
-    if NAME.match(word):
-        if any(part not in known() for part in word.split("::")):
-            return f"{word} stands nowhere in the sources"
-    return None
+        lost = not is_top_path(word) and not (OF_CRATE.match(document) and is_inner_path(word, document))
+    elif ABOUT_CODE.match(document) and "/" in word and PATH.match(word):
+        lost = word.split("/")[0] in folders() and "*" not in word and not tree.exists(word) and not is_inner_path(word, document)
+    elif ABOUT_CODE.match(document) and NAME.match(word) and any(part not in known() for part in word.split("::")):
+        return f"{word} stands nowhere in the sources"
+    return f"{word} isn't there" if lost else None
 
 
 def faults():
-    found = []
     for document in markdown.documents():
         for number, quoted in markdown.quoted(document):
             fault = fault_of(quoted.split(" ")[0].rstrip(".,:"), document) if quoted.split() else None
             if fault and (" " not in quoted or "/" in quoted.split(" ")[0]):
-                found.append(f"{document}:{number}: {fault}")
-    return found
+                yield f"{document}:{number}: {fault}"
+
+
+def of_links():
+    for document in markdown.documents():
+        for number, target in markdown.links(document):
+            if re.match(r"^[a-z]+:", target):
+                continue
+            name, _, anchor = target.partition("#")
+            path = os.path.normpath(os.path.join(os.path.dirname(document), name)) if name else document
+            if not tree.exists(path):
+                yield f"{document}:{number}: no file is at the link {target}"
+            elif anchor and path.endswith(".md") and anchor not in markdown.anchors(path):
+                yield f"{document}:{number}: no heading is at the link {target}"

@@ -4,54 +4,44 @@ import itertools
 import os
 import re
 
-from tools.documenting import definitions, scripts, sources, tree
+from tools.documenting import sources, tree
 
 
-def is_asked(words, name, found):
+def is_asked(words, path, found):
     """Whether a file of definitions is printed: its name or one of its definitions has a word, or there are no words."""
     if not words:
-        return not definitions.is_step(name)
-    return any(word in part for word in words for part in [name, *(defined for _, defined, _ in found)])
+        return not sources.is_step(path)
+    return any(word in part for word in words for part in [sources.name_of(path), *(defined for _, defined, _ in found)])
 
 
 def print_definitions(words):
     for crate in tree.crates():
-        begun = False
-        for name in definitions.files_of(crate):
-            path = definitions.path_of(crate, name)
-            found = list(definitions.definitions(path))
-            if not found or not is_asked(words, name, found):
-                continue
-            if not begun:
-                print(f"# {crate}\n")
-                begun = True
-            print(f"## {name}\n\n{definitions.head(path)}\n")
-            for _, defined, comment in found:
-                print(f"- `{defined}`: {comment}" if comment else f"- `{defined}`")
-            print()
+        heading = f"# {crate}\n\n"
+        for path in sources.definition_files(crate):
+            found = list(sources.definitions(path))
+            if found and is_asked(words, path, found):
+                print(f"{heading}## {sources.name_of(path)}\n\n{sources.head(path)}\n")
+                print("".join(f"- `{defined}`: {comment}\n" if comment else f"- `{defined}`\n" for _, defined, comment in found))
+                heading = ""
 
 
-def room(path, crate, top):
-    """The folder of a module or of a file of definitions, below the crate's."""
-    return os.path.dirname(path.removeprefix(f"crates/{crate}/{top}/"))
+def lines_of_rooms(crate):
+    """A line for each module and each file of definitions of a crate, with the folder in which it lies, below `src/` or `specs/`."""
+    for path in sources.modules(crate):
+        folder, name = os.path.split(path.removeprefix(f"crates/{crate}/src/"))
+        cited = ", ".join(f"`{name}`" for name in sources.cited(crate, path))
+        yield folder, f"- `{name[:-3]}`: {sources.head(path)}" + (f" Cites {cited}." if cited else "")
+    for path in sources.definition_files(crate):
+        folder, name = os.path.split(sources.name_of(path))
+        yield folder, f"- definitions `{name}`: {sources.head(path)}"
 
 
 def print_rooms(crates):
     for crate in crates:
-        modules = sources.modules(crate)
-        files = definitions.files_of(crate)
-        rooms = sorted({room(path, crate, "src") for path in modules} | {os.path.dirname(name) for name in files})
         print(f"# {crate}\n")
-        for folder in rooms:
-            print(f"## {folder or 'src'}\n")
-            for path in modules:
-                if room(path, crate, "src") == folder:
-                    cited = ", ".join(f"`{name}`" for name in sources.cited(crate, path))
-                    print(f"- `{os.path.basename(path)[:-3]}`: {sources.head(path)}" + (f" Cites {cited}." if cited else ""))
-            for name in files:
-                if os.path.dirname(name) == folder:
-                    print(f"- definitions `{os.path.basename(name)}`: {definitions.head(definitions.path_of(crate, name))}")
-            print()
+        lines = sorted(lines_of_rooms(crate), key=lambda pair: pair[0])
+        for folder, group in itertools.groupby(lines, lambda pair: pair[0]):
+            print(f"## {folder or 'src'}\n\n" + "".join(f"{line}\n" for _, line in group))
 
 
 def shown(comment):
@@ -64,22 +54,13 @@ def print_calls(crates):
         print(f"# {crate}\n")
         for path in sources.modules(crate):
             found = list(sources.items(path))
-            if not found:
-                continue
-            print(f"## {path.removeprefix(f'crates/{crate}/src/')}\n\n{sources.head(path)}\n")
+            if found:
+                print(f"## {path.removeprefix(f'crates/{crate}/src/')}\n\n{sources.head(path)}\n")
             for is_part, group in itertools.groupby(found, lambda item: item.kind in ("field", "variant")):
-                for item in group:
-                    if is_part:
-                        print(f"- `{item.name}`: {shown(item.comment)}")
-                    else:
-                        print(f"### {item.name}\n\n    {item.declared}\n\n{shown(item.comment)}\n")
                 if is_part:
-                    print()
-
-
-def print_scripts(_):
-    for path in scripts.paths():
-        print(f"## {path}\n\n{scripts.head(path)}\n")
+                    print("".join(f"- `{item.name}`: {shown(item.comment)}\n" for item in group))
+                else:
+                    print("\n".join(f"### {item.name}\n\n    {item.declared}\n\n{shown(item.comment)}\n" for item in group))
 
 
 # A page by its word, and whether the words after it are crates.
@@ -87,5 +68,5 @@ PAGES = {
     "definitions": (print_definitions, False),
     "rooms": (print_rooms, True),
     "calls": (print_calls, True),
-    "scripts": (print_scripts, False),
+    "scripts": (lambda _: print("\n".join(f"## {path}\n\n{sources.head_of_script(path)}\n" for path in sources.scripts())), False),
 }

@@ -34,12 +34,6 @@ def rows():
             yield number, [f"{folder}/{path}".removeprefix("./") for path in paths]
 
 
-def files_at(path):
-    """The files that a path of the table stands for."""
-    begun = [file for file in tree.kept_files() if file.startswith(path)]
-    return begun if path.endswith("/") else [file for file in begun if re.fullmatch(r"(?:\.\w+)?", file[len(path):])]
-
-
 def names_it(file):
     """Whether the text of a file names the match, or its path; what isn't text names nothing."""
     text = tree.text(file)
@@ -47,14 +41,14 @@ def names_it(file):
 
 
 def faults():
-    found, listed = [], set(APART)
+    listed = set(APART)
     for number, paths in rows():
         for path in paths:
-            files = files_at(path)
+            # Those that it stands for: of a folder all below.
+            begun = [file for file in tree.kept_files() if file.startswith(path)]
+            files = begun if path.endswith("/") else [file for file in begun if re.fullmatch(r"(?:\.\w+)?", file[len(path):])]
             listed.update(files)
-            if not files:
-                found.append(f"{DOCUMENT}:{number}: {path} isn't there")
-            elif not any(names_it(file) for file in files):
-                found.append(f"{DOCUMENT}:{number}: {path} doesn't name ttl")
+            if not any(names_it(file) for file in files):
+                yield f"{DOCUMENT}:{number}: {path} " + ("doesn't name ttl" if files else "isn't there")
     omitted = [file for file in tree.kept_files() if file not in listed and names_it(file)]
-    return found + [f"{DOCUMENT}: the table of what a new match touches lacks {file}, which names ttl" for file in omitted]
+    yield from (f"{DOCUMENT}: the table of what a new match touches lacks {file}, which names ttl" for file in omitted)

@@ -1,6 +1,6 @@
 """A fault of each kind, planted in files that stand in place of the repository's: a check that doesn't find its own is at fault."""
 
-from tools.documenting import spelling, tree
+from tools.documenting import prose, tree
 
 # The name doesn't stand here in one piece, or it would be known.
 UNKNOWN = "_".join(("stands", "nowhere", "else"))
@@ -85,8 +85,8 @@ def faults(checks):
     """The planted faults that no check finds. The checks have seen the repository's own files before."""
     tree.planted.update(FILES)
     try:
-        found = "\n".join(fault for module in checks for fault in module.faults())
+        found = "\n".join(fault for check in checks for fault in check())
     finally:
         tree.planted.clear()
-    due = DUE + ((SPELLED,) if spelling.has_dictionary() else ())
+    due = DUE + ((SPELLED,) if prose.has_dictionary() else ())
     return [f"tools/documents: a planted fault isn't found: {said}" for said in due if said not in found]

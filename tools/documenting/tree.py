@@ -3,6 +3,7 @@
 import functools
 import graphlib
 import os
+import pathlib
 import shutil
 import subprocess
 
@@ -11,8 +12,6 @@ from tools import ROOT
 
 # What is built, or isn't the repository's.
 LEFT_OUT = (".git", "out", "__pycache__")
-
-
 # Files with faults, by their paths, which stand in place of all others while the checks are tried.
 planted = {}
 
@@ -22,7 +21,7 @@ def all_files():
     return tuple(planted) or own_files()
 
 
-@functools.lru_cache(maxsize=None)
+@functools.cache
 def own_files():
     found = []
     for folder, inner, names in os.walk(ROOT):
@@ -36,7 +35,7 @@ def kept_files():
     return tuple(planted) or own_kept_files()
 
 
-@functools.lru_cache(maxsize=None)
+@functools.cache
 def own_kept_files():
     if not shutil.which("git"):
         return own_files()
@@ -53,21 +52,20 @@ def exists(path):
     return os.path.exists(os.path.join(ROOT, path))
 
 
+@functools.cache
+def own_text(path):
+    return pathlib.Path(ROOT, path).read_text(encoding="utf-8", errors="replace")
+
+
 def text(path):
     return planted[path] if path in planted else own_text(path)
-
-
-@functools.lru_cache(maxsize=None)
-def own_text(path):
-    with open(os.path.join(ROOT, path), encoding="utf-8", errors="replace") as file:
-        return file.read()
 
 
 def lines(path):
     return text(path).splitlines()
 
 
-@functools.lru_cache(maxsize=None)
+@functools.cache
 def uses():
     """On which crates of the repository each stands."""
     listed = uses_of(ROOT)

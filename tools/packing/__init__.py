@@ -3,3 +3,8 @@
 
 class Failure(Exception):
     """Why nothing can be packed."""
+
+
+def need(holds, why):
+    if not holds:
+        raise Failure(why)

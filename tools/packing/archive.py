@@ -1,21 +1,19 @@
 """The archive: one folder with the files of an installation, as below PREFIX, with a text, a script that installs, and checksums."""
 
 import gzip
-import hashlib
 import io
 import os
+import pathlib
 import tarfile
 import tempfile
 
 from tools.packing.folder import write
-from tools.packing.layout import Entry, Link, PAGE, entry
+from tools.packing.layout import Entry, Link, PAGE, checksums, entry
 
 ORIGINS = {
     True: "Both programs were proved and built from the sources of this version",
     False: "A program was built elsewhere, and put into this archive as it was",
 }
-
-
 BROWSER = "The file `{page}` has both programs, too: a browser opens it from here, and no byte leaves it.\n\n"
 
 
@@ -25,26 +23,20 @@ def has_page(contents):
 
 def text(root, contents):
     """INSTALL, by its form in share/package."""
-    form = entry(os.path.join(root, "share", "package", "INSTALL"), "INSTALL", 0o644).data.decode()
+    form = pathlib.Path(root, "share/package/INSTALL").read_text(encoding="utf-8")
     commit = contents.version.commit if contents.are_built else None
     origin = ORIGINS[contents.are_built] + (f" (commit {commit})" if commit else "")
     page = BROWSER.format(page=os.path.basename(PAGE)) if has_page(contents) else ""
     return form.format(version=contents.version.name, origin=origin, library=contents.library, page=page).encode()
 
 
-def checksums(entries):
-    """SHA256SUMS, as sha256sum writes it."""
-    return "".join(f"{hashlib.sha256(each.data).hexdigest()}  {each.place}\n" for each in entries if isinstance(each, Entry)).encode()
-
-
 def archived(root, contents):
     """The files of the archive's folder, in order."""
-    entries = [*contents.entries, Entry("INSTALL", 0o644, text(root, contents)),
-               entry(os.path.join(root, "share", "package", "install"), "install", 0o755)]
+    entries = [*contents.entries, Entry("INSTALL", 0o644, text(root, contents)), entry(f"{root}/share/package/install", "install", 0o755)]
     if has_page(contents):
         entries.append(Link(os.path.basename(PAGE), PAGE))
     entries.sort(key=lambda each: each.place)
-    return [*entries, Entry("SHA256SUMS", 0o644, checksums(entries))]
+    return [*entries, Entry("SHA256SUMS", 0o644, checksums("sha256", entries))]
 
 
 def tar(top, seconds, entries):

@@ -2,15 +2,16 @@
 
 import email.utils
 import gzip
-import hashlib
 import os
+import pathlib
+import re
 import shutil
 import subprocess
 import tempfile
 
-from tools.packing import Failure
+from tools.packing import need
 from tools.packing.folder import write
-from tools.packing.layout import Entry, Link, entry
+from tools.packing.layout import Entry, Link, checksums
 
 DOCUMENTS = "share/doc/iptsim"
 # In the starters of commands.
@@ -22,16 +23,13 @@ def compressed(place, data):
 
 
 def stripped(data):
-    """A program without its symbols, where strip is there."""
     if shutil.which("strip") is None:
         return data
     with tempfile.TemporaryDirectory() as work:
-        path = os.path.join(work, "program")
-        with open(path, "wb") as file:
-            file.write(data)
-        if subprocess.run(["strip", "--strip-unneeded", path], check=False).returncode:
-            raise Failure("strip takes no program's symbols away")
-        return entry(path, path, 0o755).data
+        path = pathlib.Path(work, "program")
+        path.write_bytes(data)
+        need(not subprocess.run(["strip", "--strip-unneeded", path], check=False).returncode, "strip takes no program's symbols away")
+        return path.read_bytes()
 
 
 def placed(each):
@@ -49,42 +47,27 @@ def placed(each):
     return each._replace(place=each.place.replace("zsh/site-functions", "zsh/vendor-completions"))
 
 
-def changelog(version, maintainer):
-    """Debian's own log of changes, which the policy asks for: it names the other."""
-    date = email.utils.formatdate(version.seconds)
-    return (f"iptsim ({version.name}) unstable; urgency=medium\n\n  * CHANGELOG.md has the changes of this version.\n\n"
-            f" -- {maintainer}  {date}\n").encode()
-
-
-def control(root, contents, entries):
-    """The control file, by its form in share/package, and the maintainer that it names."""
-    form = entry(os.path.join(root, "share", "package", "control"), "control", 0o644).data.decode()
-    size = sum(-(-len(each.data) // 1024) for each in entries if isinstance(each, Entry))
-    told = form.format(version=contents.version.name, library=contents.library, size=size)
-    return told, next(line.partition(": ")[2] for line in told.splitlines() if line.startswith("Maintainer: "))
-
-
 def files(root, contents):
-    """All files of the package, those of its control with them."""
-    entries = [placed(each) for each in contents.entries]
-    told, maintainer = control(root, contents, entries)
-    entries.append(compressed(f"{DOCUMENTS}/changelog", changelog(contents.version, maintainer)))
+    """All files of the package, those of its control with them, which is made by its form in share/package."""
+    entries, version = [placed(each) for each in contents.entries], contents.version
+    size = sum(-(-len(each.data) // 1024) for each in entries if isinstance(each, Entry))
+    form = pathlib.Path(root, "share/package/control").read_text(encoding="utf-8")
+    control = form.format(version=version.name, library=contents.library, size=size)
+    maintainer = re.search(r"(?m)^Maintainer: (.*)$", control)[1]
+    # Debian's own log of changes, which the policy asks for: it names the other.
+    log = (f"iptsim ({version.name}) unstable; urgency=medium\n\n  * CHANGELOG.md has the changes of this version.\n\n"
+           f" -- {maintainer}  {email.utils.formatdate(version.seconds)}\n")
+    entries.append(compressed(f"{DOCUMENTS}/changelog", log.encode()))
     entries = [each._replace(place=f"usr/{each.place}") for each in sorted(entries, key=lambda each: each.place)]
-    sums = "".join(f"{hashlib.md5(each.data).hexdigest()}  {each.place}\n" for each in entries if isinstance(each, Entry))
-    return [*entries, Entry("DEBIAN/control", 0o644, told.encode()), Entry("DEBIAN/md5sums", 0o644, sums.encode())]
+    return [*entries, Entry("DEBIAN/control", 0o644, control.encode()), Entry("DEBIAN/md5sums", 0o644, checksums("md5", entries))]
 
 
 def package(root, contents):
-    """The bytes of the package, or None where dpkg-deb isn't there."""
-    if shutil.which("dpkg-deb") is None:
-        return None
     with tempfile.TemporaryDirectory() as work:
-        folder, made = os.path.join(work, "package"), os.path.join(work, "made.deb")
+        folder, made = f"{work}/package", pathlib.Path(work, "made.deb")
         write(folder, files(root, contents))
         # No file of the package is newer than the commit. With another number of threads xz writes other bytes.
         fixed = dict(os.environ, SOURCE_DATE_EPOCH=str(contents.version.seconds), DPKG_DEB_THREADS_MAX="1")
-        ended = subprocess.run(["dpkg-deb", "--build", "--root-owner-group", "-Zxz", folder, made], stdout=subprocess.DEVNULL, check=False,
-                               env=fixed)
-        if ended.returncode:
-            raise Failure("dpkg-deb makes no package")
-        return entry(made, made, 0o644).data
+        call = ["dpkg-deb", "--build", "--root-owner-group", "-Zxz", folder, made]
+        need(not subprocess.run(call, stdout=subprocess.DEVNULL, check=False, env=fixed).returncode, "dpkg-deb makes no package")
+        return made.read_bytes()

@@ -1,22 +1,21 @@
 """Files that are written into a folder."""
 
 import os
+import pathlib
 import tempfile
 
 from tools.packing.layout import Link
 
 
 def write(folder, entries):
-    """Writes files into a folder, each with its mode."""
     for each in entries:
-        path = os.path.join(folder, each.place)
-        os.makedirs(os.path.dirname(path), exist_ok=True)
+        path = pathlib.Path(folder, each.place)
+        path.parent.mkdir(parents=True, exist_ok=True)
         if isinstance(each, Link):
-            os.symlink(each.target, path)
+            path.symlink_to(each.target)
         else:
-            with open(path, "wb") as file:
-                file.write(each.data)
-            os.chmod(path, each.mode)
+            path.write_bytes(each.data)
+            path.chmod(each.mode)
     for inner, _, _ in os.walk(folder):
         os.chmod(inner, 0o755)
 

@@ -2,8 +2,10 @@
 
 import collections
 import glob
+import hashlib
 import modulefinder
 import os
+import pathlib
 
 from tools.completing.table import read_commands
 
@@ -17,28 +19,24 @@ PAGE = "share/doc/iptsim/iptsim.html"
 # What the modules of commands read.
 TABLE = "commands/options.table"
 
-# Where the sources have files that are installed as they are: a pattern, and the folder of the installation.
+# Where the sources have files that are installed as they are: patterns, and the folder of the installation.
 COPIED = (
-    ("docs/*.1", "share/man/man1"),
-    ("share/bash-completion/completions/*", "share/bash-completion/completions"),
-    ("share/zsh/site-functions/*", "share/zsh/site-functions"),
-    ("share/fish/vendor_completions.d/*", "share/fish/vendor_completions.d"),
-    ("docs/GUIDE.md", "share/doc/iptsim"),
-    ("docs/RECIPES.md", "share/doc/iptsim"),
-    ("docs/DIFFERENCES.md", "share/doc/iptsim"),
-    ("docs/THEOREM.md", "share/doc/iptsim"),
-    ("docs/GLOSSARY.md", "share/doc/iptsim"),
-    ("docs/differences.tsv", "share/doc/iptsim"),
-    ("docs/schemas/*.json", "share/doc/iptsim/schemas"),
-    ("CHANGELOG.md", "share/doc/iptsim"),
-    ("LICENSE", "share/doc/iptsim"),
-    ("examples/*", "share/doc/iptsim/examples"),
+    (["docs/*.1"], "share/man/man1"),
+    *(([f"{folder}/*"], folder) for folder in ("share/bash-completion/completions", "share/zsh/site-functions", "share/fish/vendor_completions.d")),
+    ([f"docs/{name}.md" for name in ("GUIDE", "RECIPES", "DIFFERENCES", "THEOREM", "GLOSSARY")], "share/doc/iptsim"),
+    (["docs/differences.tsv", "CHANGELOG.md", "LICENSE"], "share/doc/iptsim"),
+    (["docs/schemas/*.json"], "share/doc/iptsim/schemas"),
+    (["examples/*"], "share/doc/iptsim/examples"),
 )
 
 
 def entry(source, place, mode):
-    with open(source, "rb") as file:
-        return Entry(place, mode, file.read())
+    return Entry(place, mode, pathlib.Path(source).read_bytes())
+
+
+def checksums(name, entries):
+    """The checksums of files by a hash, as sha256sum and md5sum write them."""
+    return "".join(f"{hashlib.new(name, each.data).hexdigest()}  {each.place}\n" for each in entries if isinstance(each, Entry)).encode()
 
 
 def modules(root, name):
@@ -62,7 +60,7 @@ def installation(root, programs):
     """All files, where `programs` has the bytes of each program by its name."""
     entries = [Entry(f"bin/{name}", 0o755, data) for name, data in programs.items()]
     entries += commands(root, [name[len("iptsim-"):] for name in read_commands(root) if name.startswith("iptsim-")])
-    for pattern, folder in COPIED:
-        for source in sorted(glob.glob(os.path.join(root, pattern))):
-            entries.append(entry(source, f"{folder}/{os.path.basename(source)}", 0o644))
+    for patterns, folder in COPIED:
+        sources = [source for pattern in patterns for source in sorted(glob.glob(os.path.join(root, pattern)))]
+        entries += [entry(source, f"{folder}/{os.path.basename(source)}", 0o644) for source in sources]
     return entries

@@ -1,13 +1,17 @@
-"""The two programs: where each comes from, what it needs, whether it answers as it must, and the commit that it names."""
+"""The two programs: where each comes from, what it needs, whether it answers as it must, and the commit that it names; and the version of what is
+packed, and the commit that it is made of."""
 
 import collections
 import os
+import pathlib
 import re
 import subprocess
 import sys
 import tempfile
 
-from tools.packing import Failure
+from tools.packing import Failure, need
+from tools.packing.folder import write
+from tools.packing.layout import Entry
 
 # What the programs' sources have beside the version, and tools/release writes the first digits of the commit's hash over.
 UNRELEASED = "not released"
@@ -46,9 +50,35 @@ dead INPUT 2 -A INPUT -s 192.0.2.7/32 -j ACCEPT
 # A program that is packed: its bytes, and whether it was built from these sources.
 Program = collections.namedtuple("Program", "data is_built library")
 
+# What the version is named in names of files, the number alone, the commit's hash where the sources are those of it, and the
+# commit's time.
+Version = collections.namedtuple("Version", "name number commit seconds")
+# All that the programs and the files of an installation are made of.
+SOURCES = ("VERSION", "CHANGELOG.md", "LICENSE", "crates.txt", "crates", "bin", "commands", "docs", "examples", "share", "tests", "tools", "web")
+
 
 def note(text):
     print(f"release: {text}", file=sys.stderr)
+
+
+def git(root, *words):
+    ended = subprocess.run(["git", "-C", root, *words], stdout=subprocess.PIPE, text=True, check=False)
+    need(not ended.returncode, "git names no commit of this repository")
+    return ended.stdout
+
+
+def find_version(root):
+    """The version of a repository's files: `+changed` where one isn't as committed, and `+unversioned` outside of git."""
+    try:
+        told = pathlib.Path(root, "VERSION").read_text(encoding="ascii").strip()
+    except OSError as error:
+        raise Failure(f"the file VERSION can't be read: {error.strerror}") from error
+    if not os.path.exists(os.path.join(root, ".git")):
+        return Version(told + "+unversioned", told, None, 0)
+    seconds, commit = git(root, "rev-list", "--max-count=1", "--timestamp", "HEAD").split()
+    if git(root, "status", "--porcelain", "--untracked-files=normal", "--", *SOURCES):
+        return Version(told + "+changed", told, None, int(seconds))
+    return Version(told, told, commit, int(seconds))
 
 
 def find_program(root, name):
@@ -57,26 +87,21 @@ def find_program(root, name):
     given = os.environ.get(known.variable)
     if given:
         path = os.path.realpath(given)
-        if not os.path.isfile(path):
-            raise Failure(f"{known.variable} names no file: {given}")
+        need(os.path.isfile(path), f"{known.variable} names no file: {given}")
         note(f"the program {name} is the one that {known.variable} names, whether it is proved or not")
         return path, False
     command = [os.path.join(root, "bin", name), *known.building]
-    if subprocess.run(command, stdin=subprocess.DEVNULL, stdout=subprocess.DEVNULL, check=False).returncode:
-        raise Failure(f"the program {name} is not built")
+    need(not subprocess.run(command, stdin=subprocess.DEVNULL, stdout=subprocess.DEVNULL, check=False).returncode, f"the program {name} is not built")
     return os.path.join(root, "crates", name, "out", name), True
 
 
 def find_library(path):
     """The version of the C library that the program needs. It may need no other library."""
-    ended = subprocess.run(["ldd", "-v", path], stdout=subprocess.PIPE, stderr=subprocess.DEVNULL, text=True, check=False,
-                           env=dict(os.environ, LC_ALL="C"))
-    if ended.returncode:
-        raise Failure(f"this is no program for this machine, as ldd says: {path}")
+    ended = subprocess.run(["ldd", "-v", path], capture_output=True, text=True, check=False, env=dict(os.environ, LC_ALL="C"))
+    need(not ended.returncode, f"this is no program for this machine, as ldd says: {path}")
     needed = [line.split()[0] for line in ended.stdout.partition("\n\n")[0].splitlines()]
     others = [library for library in needed if library not in LIBRARIES]
-    if others:
-        raise Failure(f"the program needs more than the C library, so it isn't the proved one: {' '.join(others)}")
+    need(not others, f"the program needs more than the C library, so it isn't the proved one: {' '.join(others)}")
     return max(GLIBC.findall(ended.stdout), key=numbers, default="0")
 
 
@@ -85,9 +110,8 @@ def numbers(version):
 
 
 def answer(name, path, words, given):
-    """The status and the output of a program."""
     try:
-        ended = subprocess.run([path, *words], input=given.encode(), stdout=subprocess.PIPE, stderr=subprocess.DEVNULL, check=False, timeout=60)
+        ended = subprocess.run([path, *words], input=given.encode(), capture_output=True, check=False, timeout=60)
     except (OSError, subprocess.TimeoutExpired) as error:
         raise Failure(f"the program {name} can't be asked: {path}: {error}") from error
     return ended.returncode, ended.stdout.decode(errors="replace")
@@ -108,10 +132,8 @@ def told(version):
 
 
 def with_version(name, data, version):
-    """The program's bytes with the commit in its place."""
     place = f"{version.number} ({UNRELEASED})".encode()
-    if data.count(place) != 1:
-        raise Failure(f"the program {name} has the text '{place.decode()}' in {data.count(place)} places, and not in one")
+    need(data.count(place) == 1, f"the program {name} has the text '{place.decode()}' in {data.count(place)} places, and not in one")
     return data.replace(place, told(version).encode())
 
 
@@ -119,13 +141,9 @@ def with_commit(name, data, version):
     """The program's bytes with the commit in its place, after it was asked for its version."""
     data = with_version(name, data, version)
     with tempfile.TemporaryDirectory() as work:
-        path = os.path.join(work, name)
-        with open(path, "wb") as file:
-            file.write(data)
-        os.chmod(path, 0o755)
-        said = answer(name, path, ["--version"], "")
-    if said != (0, f"{name} {told(version)}\n"):
-        raise Failure(f"the program {name} doesn't print '{name} {told(version)}' as its version: {said[1].rstrip()}")
+        write(work, [Entry(name, 0o755, data)])
+        said = answer(name, os.path.join(work, name), ["--version"], "")
+    need(said == (0, f"{name} {told(version)}\n"), f"the program {name} doesn't print '{name} {told(version)}' as its version: {said[1].rstrip()}")
     return data
 
 
@@ -134,8 +152,5 @@ def packed(root, name, version):
     path, is_built = find_program(root, name)
     library = find_library(path)
     ask(name, path)
-    with open(path, "rb") as file:
-        data = file.read()
-    if is_built and version.commit:
-        data = with_commit(name, data, version)
-    return Program(data, is_built, library)
+    data = pathlib.Path(path).read_bytes()
+    return Program(with_commit(name, data, version) if is_built and version.commit else data, is_built, library)

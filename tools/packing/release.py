@@ -16,43 +16,39 @@ than it must isn't packed. The page is that of tools/page, or the file that IPTS
 The status is 0 where the files are there, 1 where they can't be made, and 2 for wrong words.
 """
 
-import hashlib
 import os
+import shutil
 import sys
 
 from tools import ROOT, parser
-from tools.packing import Failure
+from tools.packing import Failure, need
 from tools.packing.archive import archived, tar
 from tools.packing.contents import gather
 from tools.packing.debian import package
 from tools.packing.folder import put
+from tools.packing.layout import Entry, checksums
 from tools.packing.programs import note
 
 
 def made(contents):
-    """The files that are made, by their names."""
     version = contents.version
     top = f"iptsim-{version.name}"
     files = {f"{top}-x86_64.tar.gz": tar(top, version.seconds, archived(ROOT, contents))}
-    debian = package(ROOT, contents)
-    if debian is None:
+    if shutil.which("dpkg-deb") is None:
         note("dpkg-deb isn't there, so no package for Debian is made")
-    else:
-        files[f"iptsim_{version.name}_amd64.deb"] = debian
-    return files
+        return files
+    return {**files, f"iptsim_{version.name}_amd64.deb": package(ROOT, contents)}
 
 
 def release(folder):
-    if not os.path.isdir(folder) or not os.access(folder, os.W_OK):
-        raise Failure(f"no folder in which a file can be made: {folder}")
+    need(os.path.isdir(folder) and os.access(folder, os.W_OK), f"no folder in which a file can be made: {folder}")
     contents = gather(ROOT)
-    files = made(contents)
-    sums = {name: hashlib.sha256(data).hexdigest() for name, data in files.items()}
-    files[f"iptsim-{contents.version.name}.sha256"] = "".join(f"{digest}  {name}\n" for name, digest in sums.items()).encode()
-    for name, data in files.items():
-        put(os.path.join(folder, name), data)
-    for name, digest in sums.items():
-        print(f"{digest}  {name if folder == '.' else os.path.join(folder, name)}")
+    entries = [Entry(name, 0o644, data) for name, data in made(contents).items()]
+    sums = Entry(f"iptsim-{contents.version.name}.sha256", 0o644, checksums("sha256", entries))
+    for each in (*entries, sums):
+        put(os.path.join(folder, each.place), each.data)
+    shown = entries if folder == "." else [each._replace(place=os.path.join(folder, each.place)) for each in entries]
+    sys.stdout.write(checksums("sha256", shown).decode())
 
 
 def main():

@@ -7,9 +7,10 @@ proved and built before, so the module is that program's.
 
 import filecmp
 import os
+import pathlib
 
 from commands.crates import crates_of, uses_of
-from tools.packing import Failure
+from tools.packing import need
 from tools.paging.kit import call
 
 TARGET = "x86_64-unknown-linux-gnu"
@@ -31,15 +32,13 @@ def keeping_toolchain(kit, folder):
     for name in os.listdir(kit.part("toolchain", "bin")):
         if name != "clang":
             os.symlink(kit.part("toolchain", "bin", name), os.path.join(made, "bin", name))
-    clang = os.path.join(made, "bin", "clang")
-    with open(clang, "w", encoding="utf-8") as file:
-        file.write(KEEPING.format(kept=kept, clang=kit.part("toolchain", "bin", "clang")))
-    os.chmod(clang, 0o755)
+    clang = pathlib.Path(made, "bin", "clang")
+    clang.write_text(KEEPING.format(kept=kept, clang=kit.part("toolchain", "bin", "clang")), encoding="utf-8")
+    clang.chmod(0o755)
     return made, kept
 
 
 def libraries(root, kit, name):
-    """The words that name the libraries on which a program stands."""
     words = ["-L", f"dependency={kit.part('rlibs')}", "--extern", f"std={kit.part('rlibs', 'std.rlib')}"]
     for crate in sorted(crates_of(root, name) - {name}):
         words += ["-L", f"dependency={os.path.join(root, 'crates', crate, 'out', 'rlib')}"]
@@ -58,8 +57,7 @@ def build(root, kit, name, toolchain, made):
     folder = os.path.join(root, "crates", name)
     os.makedirs(os.path.join(folder, "out"), exist_ok=True)
     said = call(words, cwd=folder)
-    if not any(line.startswith("logic=proved ") for line in said.splitlines()):
-        raise Failure(f"the toolchain doesn't say that {name} is proved:\n{said[-2000:]}")
+    need(any(line.startswith("logic=proved ") for line in said.splitlines()), f"the toolchain doesn't say that {name} is proved:\n{said[-2000:]}")
     call([kit.part("bin", "rattle-link"), "--target", TARGET, "--toolchain", kit.part("toolchain"), "-o", made, f"{made}.o",
           kit.part("c", "libos_c.a"), kit.part("c", "liblibc_c.a")], cwd=folder)
 
@@ -70,8 +68,6 @@ def bitcode(root, kit, name, program, work):
     made = os.path.join(work, name)
     build(root, kit, name, toolchain, made)
     modules = os.listdir(kept)
-    if len(modules) != 1:
-        raise Failure(f"the toolchain handed {len(modules)} modules to clang, and not one: this script has to be fitted to it")
-    if not filecmp.cmp(made, program, shallow=False):
-        raise Failure(f"{program} isn't the program that these sources give: build it again")
+    need(len(modules) == 1, f"the toolchain handed {len(modules)} modules to clang, and not one: this script has to be fitted to it")
+    need(filecmp.cmp(made, program, shallow=False), f"{program} isn't the program that these sources give: build it again")
     return os.path.join(kept, modules[0])

@@ -4,13 +4,14 @@ import concurrent.futures
 import fcntl
 import hashlib
 import os
+import pathlib
 import sys
 import tempfile
 
-from tools.packing import Failure
+from tools.packing import need
 from tools.packing.programs import PROGRAMS, find_program, told, with_version
 from tools.paging.bitcode import bitcode
-from tools.paging.document import page, read
+from tools.paging.document import page
 from tools.paging.kit import Kit
 from tools.paging.wasm import compiled, linked, machine
 
@@ -20,14 +21,8 @@ def note(text):
 
 
 def digest(paths, *texts):
-    """One digest of files and texts."""
-    whole = hashlib.sha256()
-    for path in paths:
-        with open(path, "rb") as file:
-            whole.update(hashlib.sha256(file.read()).digest())
-    for text in texts:
-        whole.update(hashlib.sha256(text.encode()).digest())
-    return whole.hexdigest()
+    parts = [*(pathlib.Path(path).read_bytes() for path in paths), *(text.encode() for text in texts)]
+    return hashlib.sha256(b"".join(hashlib.sha256(part).digest() for part in parts)).hexdigest()
 
 
 class Maker:
@@ -35,29 +30,21 @@ class Maker:
 
     def __init__(self, root):
         self.root, self.kit, self.out = root, Kit(), os.path.join(root, "web", "out")
-        self.machine = os.path.join(root, "web", "machine")
         os.makedirs(self.out, exist_ok=True)
-
-    def program(self, name):
-        """The proved program of these sources."""
-        path, is_built = find_program(self.root, name)
-        if not is_built:
-            raise Failure(f"the page takes the program of these sources alone, and not the one that {PROGRAMS[name].variable} names")
-        return path
 
     def kept(self, name, known, make):
         """The file `name` of web/out, which is made where it isn't the one of what is known: `make` writes it to a path in a folder."""
-        path, note_of = os.path.join(self.out, name), os.path.join(self.out, f"{name}.of")
-        if not (os.path.exists(path) and os.path.exists(note_of) and read(note_of) == known):
+        path, note_of = (pathlib.Path(self.out, each) for each in (name, f"{name}.of"))
+        if not (path.exists() and note_of.exists() and note_of.read_text(encoding="ascii") == known):
             with tempfile.TemporaryDirectory(dir=self.out) as work:
                 os.replace(make(work), path)
-            with open(note_of, "w", encoding="ascii") as file:
-                file.write(known)
-        return path
+            note_of.write_text(known, encoding="ascii")
+        return str(path)
 
     def object(self, name):
         """The path of a program's object file for WebAssembly."""
-        program = self.program(name)
+        program, is_built = find_program(self.root, name)
+        need(is_built, f"the page takes the program of these sources alone, and not the one that {PROGRAMS[name].variable} names")
 
         def make(work):
             note(f"building {name} once more, for the page; this takes some minutes")
@@ -72,8 +59,7 @@ class Maker:
         with tempfile.TemporaryDirectory(dir=self.out) as work:
             path = os.path.join(work, name)
             linked(self.kit, [made, *machine(self.kit, sources, work)], path)
-            with open(path, "rb") as file:
-                return file.read()
+            return pathlib.Path(path).read_bytes()
 
 
 def make_page(root, version, worker=None, sources=None):
@@ -82,6 +68,6 @@ def make_page(root, version, worker=None, sources=None):
     with open(os.path.join(maker.out, "lock"), "w", encoding="ascii") as lock:
         fcntl.flock(lock, fcntl.LOCK_EX)
         with concurrent.futures.ThreadPoolExecutor(len(PROGRAMS)) as pool:
-            made = list(pool.map(lambda name: maker.wasm(name, sources or maker.machine), PROGRAMS))
+            made = list(pool.map(lambda name: maker.wasm(name, sources or os.path.join(web, "machine")), PROGRAMS))
     programs = {name: with_version(name, data, version) for name, data in zip(PROGRAMS, made)}
-    return page(web, programs, worker or read(os.path.join(web, "worker.js")), told(version))
+    return page(web, programs, worker or pathlib.Path(web, "worker.js").read_text(encoding="utf-8"), told(version))

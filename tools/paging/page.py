@@ -16,7 +16,7 @@ import sys
 from tools import ROOT, parser
 from tools.packing import Failure
 from tools.packing.folder import put
-from tools.packing.version import find_version
+from tools.packing.programs import find_version
 from tools.paging.made import make_page
 
 

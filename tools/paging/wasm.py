@@ -1,6 +1,7 @@
 """WebAssembly of a program's bitcode: the module is given another target, compiled, and linked with web/machine."""
 
 import os
+import pathlib
 import re
 
 from tools.packing import Failure
@@ -49,14 +50,9 @@ def retargeted(name, text):
 
 
 def compiled(kit, name, module, work):
-    """The path of the module's object file."""
-    clang, text = kit.part("toolchain", "bin", "clang"), os.path.join(work, f"{name}.ll")
-    made = os.path.join(work, f"{name}.wasm.o")
+    clang, text, made = kit.part("toolchain", "bin", "clang"), pathlib.Path(work, f"{name}.ll"), os.path.join(work, f"{name}.wasm.o")
     call([clang, "-x", "ir", module, "-S", "-emit-llvm", "-Xclang", "-disable-llvm-passes", "--no-default-config", "-o", text])
-    with open(text, encoding="utf-8") as file:
-        told = retargeted(name, file.read())
-    with open(text, "w", encoding="utf-8") as file:
-        file.write(told)
+    text.write_text(retargeted(name, text.read_text(encoding="utf-8")), encoding="utf-8")
     call([clang, *COMPILING, "-O3", "-c", "-x", "ir", text, "-o", made])
     return made
 

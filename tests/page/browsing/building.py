@@ -1,14 +1,13 @@
 """How tools/page is built and refused, with a toolchain of stand-ins, and texts in place of modules."""
 
-import os
 import pathlib
-import tempfile
 
 import pytest
 
+from tests.shared.rows import write
 from tools.packing import Failure
 from tools.paging.bitcode import bitcode
-from tools.paging.bundle import bundle
+from tools.paging.document import bundle
 from tools.paging.wasm import GIVEN, WANTED, retargeted
 
 MODULE = "\n".join(("; ModuleID", *GIVEN, "define i32 @main() #0 {", "ret i32 0", "}",
@@ -79,43 +78,34 @@ class StandIn:
         for place, text in (("bin/rattle", RATTLE.format(**told)), ("bin/rattle-link", LINK), ("toolchain/bin/clang", CLANG), ("toolchain/lib/x", ""),
                             ("rlibs/std.rlib/x", ""), ("rattle/logic/antt-project.json", ""), ("logic_built/x", ""), ("c/libos_c.a", ""),
                             ("c/liblibc_c.a", "")):
-            path = self.part(*place.split("/"))
-            os.makedirs(os.path.dirname(path), exist_ok=True)
-            pathlib.Path(path).write_text(text, encoding="utf-8")
-            os.chmod(path, 0o755)
+            path = pathlib.Path(folder, place)
+            path.parent.mkdir(parents=True, exist_ok=True)
+            path.write_text(text, encoding="utf-8")
+            path.chmod(0o755)
 
     def part(self, *place):
-        return os.path.join(self.folder, *place)
+        return str(pathlib.Path(self.folder, *place))
 
 
 def outcome(make):
-    """What is made, or why nothing is."""
     try:
         return make()
     except Failure as failure:
         return str(failure)
 
 
-def handed(told, program):
-    """The module of a program of a repository with one crate."""
-    with tempfile.TemporaryDirectory() as work:
-        root, proved = os.path.join(work, "root"), os.path.join(work, "proved")
-        os.makedirs(os.path.join(root, "crates", "p"))
-        pathlib.Path(os.path.join(root, "crates.txt")).write_text("p:\n", encoding="utf-8")
-        pathlib.Path(proved).write_bytes(program)
-        module = bitcode(root, StandIn(os.path.join(work, "kit"), told), "p", proved, os.path.join(work, "made"))
-        return pathlib.Path(module).read_text(encoding="utf-8")
+def handed(told, program, folder):
+    write(folder, {"root/crates/p/": b"", "root/crates.txt": b"p:\n", "proved": program})
+    module = bitcode(f"{folder}/root", StandIn(f"{folder}/kit", told), "p", f"{folder}/proved", f"{folder}/made")
+    return pathlib.Path(module).read_text(encoding="utf-8")
 
 
-def bundled(changed):
-    with tempfile.TemporaryDirectory() as work:
-        for name, text in {**MODULES, **changed}.items():
-            pathlib.Path(os.path.join(work, name)).write_text(text, encoding="utf-8")
-        return bundle(os.path.join(work, "main.js"))
+def bundled(changed, folder):
+    write(folder, {name: text.encode() for name, text in {**MODULES, **changed}.items()})
+    return bundle(f"{folder}/main.js")
 
 
 def test_module():
-    """A module for the other target."""
     assert retargeted("p", MODULE) == DUE
 
 
@@ -125,15 +115,14 @@ def test_refused_module(old, new, why):
 
 
 @pytest.mark.parametrize("told, program, due", HANDED, ids=[row[2] for row in HANDED])
-def test_handed(told, program, due):
-    """What the toolchain hands over."""
-    assert due in outcome(lambda: handed(told, program))
+def test_handed(told, program, due, folder):
+    assert due in outcome(lambda: handed(told, program, folder))
 
 
-def test_bundle():
-    assert bundled({}) == BUNDLE
+def test_bundle(folder):
+    assert bundled({}, folder) == BUNDLE
 
 
 @pytest.mark.parametrize("changed, due", UNBUNDLED, ids=[row[1] for row in UNBUNDLED])
-def test_unbundled(changed, due):
-    assert due in outcome(lambda: bundled(changed))
+def test_unbundled(changed, due, folder):
+    assert due in outcome(lambda: bundled(changed, folder))

@@ -3,9 +3,10 @@
 import base64
 import collections
 import json
-import os
 import subprocess
 import tempfile
+
+from tests.shared.rows import write
 
 # `name` says where a call comes from, `files` has the bytes of files by the names that words give them, and `input` is standard input.
 Call = collections.namedtuple("Call", "name program words files input")
@@ -41,21 +42,17 @@ def text(data):
     return base64.b64encode(data).decode()
 
 
-def size(call):
-    return sum(map(len, call.files.values())) + len(call.input)
-
-
 def batches(calls):
     """The calls in order, in lists that aren't too long."""
-    batch, length = [], 0
+    lists, length = [[]], 0
     for call in calls:
-        if batch and length + size(call) > BATCH:
-            yield batch
-            batch, length = [], 0
-        batch.append(call)
-        length += size(call)
-    if batch:
-        yield batch
+        size = sum(map(len, call.files.values())) + len(call.input)
+        if lists[-1] and length + size > BATCH:
+            lists.append([])
+            length = 0
+        lists[-1].append(call)
+        length += size
+    return lists
 
 
 def in_page(browser, calls, pages=None):
@@ -72,10 +69,6 @@ def in_page(browser, calls, pages=None):
 def on_machine(programs, call):
     """What comes of a call of the program whose path `programs` has."""
     with tempfile.TemporaryDirectory() as folder:
-        for name, data in call.files.items():
-            os.makedirs(os.path.dirname(os.path.join(folder, name)), exist_ok=True)
-            with open(os.path.join(folder, name), "wb") as file:
-                file.write(data)
-        ended = subprocess.run([programs[call.program], *call.words], input=call.input, cwd=folder, stdout=subprocess.PIPE,
-                               stderr=subprocess.PIPE, check=False)
+        write(folder, call.files)
+        ended = subprocess.run([programs[call.program], *call.words], input=call.input, cwd=folder, capture_output=True, check=False)
     return Answer(ended.returncode, ended.stdout, ended.stderr)

@@ -4,9 +4,12 @@ import base64
 import fcntl
 import json
 import os
-import subprocess
 
-from tests.page.browsing.failure import BrowserFailure
+from tests.page.browsing.browser import Browser, BrowserFailure
+
+
+# The keys that a user presses, by their numbers.
+KEYS = {"Enter": 13, "Tab": 9, "ArrowUp": 38}
 
 
 def high_pipe():
@@ -18,7 +21,7 @@ def high_pipe():
     return high
 
 
-class Chromium:
+class Chromium(Browser):
     """A browser with one tab. `folder` is for its profile and what it saves."""
 
     name = "chromium"
@@ -32,8 +35,7 @@ class Chromium:
                  "--disable-background-timer-throttling", "--disable-backgrounding-occluded-windows", "--disable-dev-shm-usage",
                  f"--user-data-dir={folder}", "--remote-debugging-pipe", *(["--no-sandbox"] if os.geteuid() == 0 else []), "about:blank"]
         shell = ["bash", "-c", f'exec "$@" 3<&{to_browser} 4>&{from_browser}', "bash", *words]
-        with open(os.path.join(folder, "log"), "wb") as log:
-            self.process = subprocess.Popen(shell, stdin=subprocess.DEVNULL, stdout=log, stderr=log, pass_fds=(to_browser, from_browser))
+        self.start(shell, folder, pass_fds=(to_browser, from_browser))
         os.close(to_browser)
         os.close(from_browser)
         self.write, self.read, self.number, self.seen, self.session = write, os.fdopen(read, "rb"), 0, [], None
@@ -44,25 +46,14 @@ class Chromium:
             self.call(f"{domain}.enable")
         self.call("Emulation.setFocusEmulationEnabled", enabled=True)
 
-    def receive(self):
-        told = bytearray()
-        while not told.endswith(b"\0"):
-            byte = self.read.read(1)
-            if not byte:
-                raise BrowserFailure("chromium has ended")
-            told += byte
-        return json.loads(told[:-1])
-
     def call(self, method, **given):
         self.number += 1
-        told = {"id": self.number, "method": method, "params": given}
-        if self.session:
-            told["sessionId"] = self.session
-        data = json.dumps(told).encode() + b"\0"
+        session = {"sessionId": self.session} if self.session else {}
+        data = json.dumps({"id": self.number, "method": method, "params": given, **session}).encode() + b"\0"
         while data:
             data = data[os.write(self.write, data):]
         while True:
-            answer = self.receive()
+            answer = json.loads(self.told(self.read, b"\0"))
             if answer.get("id") != self.number:
                 self.seen.append(answer)
             elif "error" in answer:
@@ -93,30 +84,19 @@ class Chromium:
         """A picture of the window, or of all of the page, as PNG."""
         return base64.b64decode(self.call("Page.captureScreenshot", format="png", captureBeyondViewport=whole)["data"])
 
-    def press(self, key, code=None, text=None):
-        """Presses a key of the keyboard."""
-        known = {"Enter": ("Enter", 13, "\r"), "Tab": ("Tab", 9, None), "ArrowUp": ("ArrowUp", 38, None), "ArrowDown": ("ArrowDown", 40, None),
-                 "ArrowRight": ("ArrowRight", 39, None), "ArrowLeft": ("ArrowLeft", 37, None), "Escape": ("Escape", 27, None),
-                 " ": ("Space", 32, " ")}
-        code, number, text = known[key]
-        given = {"key": key, "code": code, "windowsVirtualKeyCode": number}
-        self.call("Input.dispatchKeyEvent", type="keyDown", **given, **({"text": text} if text else {}))
+    def press(self, key):
+        given = {"key": key, "code": key, "windowsVirtualKeyCode": KEYS[key]}
+        self.call("Input.dispatchKeyEvent", type="keyDown", **given, **({"text": "\r"} if key == "Enter" else {}))
         self.call("Input.dispatchKeyEvent", type="keyUp", **given)
 
     def type(self, text):
         self.call("Input.insertText", text=text)
 
     def choose_file(self, selector, path):
-        """Has the file input take a file of the disk."""
         node = self.call("Runtime.evaluate", expression=f"document.querySelector({json.dumps(selector)})")["result"]["objectId"]
         self.call("DOM.setFileInputFiles", files=[path], objectId=node)
 
     def close(self):
-        self.process.terminate()
-        try:
-            self.process.wait(10)
-        except subprocess.TimeoutExpired:
-            self.process.kill()
-            self.process.wait()
+        super().close()
         self.read.close()
         os.close(self.write)

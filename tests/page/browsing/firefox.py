@@ -3,11 +3,11 @@
 import base64
 import json
 import os
+import pathlib
 import socket
-import subprocess
 import time
 
-from tests.page.browsing.failure import BrowserFailure
+from tests.page.browsing.browser import Browser, BrowserFailure
 
 PREFERENCES = {
     "marionette.port": 0,
@@ -22,22 +22,19 @@ PREFERENCES = {
     "remote.prefs.recommended": True,
 }
 ELEMENT = "element-6066-11e4-a52e-4f735466cecf"
-KEYS = {"Enter": "\ue007", "Tab": "\ue004", "ArrowUp": "\ue013", "ArrowDown": "\ue015", "ArrowRight": "\ue014", "ArrowLeft": "\ue012",
-        "Escape": "\ue00c", " ": " "}
+KEYS = {"Enter": "\ue007", "Tab": "\ue004", "ArrowUp": "\ue013"}
 
 
-class Firefox:
+class Firefox(Browser):
     """A browser with one tab. `folder` is for its profile and what it saves."""
 
     name = "firefox"
 
     def __init__(self, folder):
-        with open(os.path.join(folder, "user.js"), "w", encoding="utf-8") as file:
-            file.writelines(f"user_pref({json.dumps(name)}, {json.dumps(value)});\n" for name, value in PREFERENCES.items())
+        preferences = "".join(f"user_pref({json.dumps(name)}, {json.dumps(value)});\n" for name, value in PREFERENCES.items())
+        pathlib.Path(folder, "user.js").write_text(preferences, encoding="utf-8")
         words = ["firefox-esr", "--headless", "--no-remote", "--marionette", "--remote-allow-system-access", "--profile", folder]
-        with open(os.path.join(folder, "log"), "wb") as log:
-            self.process = subprocess.Popen(words, stdin=subprocess.DEVNULL, stdout=log, stderr=log,
-                                            env=dict(os.environ, HOME=folder, MOZ_HEADLESS_WIDTH="1280", MOZ_HEADLESS_HEIGHT="900"))
+        self.start(words, folder, env=dict(os.environ, HOME=folder, MOZ_HEADLESS_WIDTH="1280", MOZ_HEADLESS_HEIGHT="900"))
         self.number = 0
         self.socket = socket.create_connection(("127.0.0.1", self.port(folder)))
         self.stream = self.socket.makefile("rb")
@@ -46,22 +43,15 @@ class Firefox:
         self.call("WebDriver:SetTimeouts", script=600000, pageLoad=60000)
 
     def port(self, folder):
-        path, until = os.path.join(folder, "MarionetteActivePort"), time.monotonic() + 60
+        path, until = pathlib.Path(folder, "MarionetteActivePort"), time.monotonic() + 60
         while time.monotonic() < until and self.process.poll() is None:
-            if os.path.exists(path) and os.path.getsize(path):
-                with open(path, encoding="ascii") as file:
-                    return int(file.read())
+            if path.exists() and path.stat().st_size:
+                return int(path.read_text(encoding="ascii"))
             time.sleep(0.1)
         raise BrowserFailure("firefox doesn't start")
 
     def receive(self):
-        length = bytearray()
-        while not length.endswith(b":"):
-            byte = self.stream.read(1)
-            if not byte:
-                raise BrowserFailure("firefox has ended")
-            length += byte
-        return json.loads(self.stream.read(int(length[:-1])))
+        return json.loads(self.stream.read(int(self.told(self.stream, b":"))))
 
     def call(self, method, **given):
         self.number += 1
@@ -94,23 +84,12 @@ class Firefox:
         return base64.b64decode(self.call("WebDriver:TakeScreenshot", full=whole, hash=False)["value"])
 
     def press(self, key):
-        """Presses a key of the keyboard."""
-        keys = [{"type": kind, "value": KEYS[key]} for kind in ("keyDown", "keyUp")]
-        self.call("WebDriver:PerformActions", actions=[{"type": "key", "id": "keyboard", "actions": keys}])
+        self.type(KEYS[key])
 
     def type(self, text):
         keys = [{"type": kind, "value": letter} for letter in text for kind in ("keyDown", "keyUp")]
         self.call("WebDriver:PerformActions", actions=[{"type": "key", "id": "keyboard", "actions": keys}])
 
     def choose_file(self, selector, path):
-        """Has the file input take a file of the disk."""
         found = self.call("WebDriver:FindElement", using="css selector", value=selector)["value"]
         self.call("WebDriver:ElementSendKeys", id=found[ELEMENT], text=path)
-
-    def close(self):
-        self.process.terminate()
-        try:
-            self.process.wait(10)
-        except subprocess.TimeoutExpired:
-            self.process.kill()
-            self.process.wait()

@@ -1,6 +1,7 @@
 """The calls that are tried in the page and on this machine: the cases, the guide's commands, and questions about the dumps of examples."""
 
 import os
+import pathlib
 import tempfile
 
 from tests.documents import guide
@@ -25,49 +26,38 @@ QUESTIONS = (["dead"], ["dead", "--json"], ["tests"], ["tests", "--json"], ["dea
 ASKED = (["cover"], ["cover", "--json"], ["walk"], ["walk", "--json"])
 
 
-def read(path):
-    with open(path, "rb") as file:
-        return file.read()
-
-
 def of_cases():
     for case in all_cases():
         for play in plays_of(case):
-            words, files = list(play.words), {}
-            if play.file is not None:
-                words, files = [*words, "--load", "file"], {"file": play.file}
-            yield Call(play.name, "iptsim", words, files, play.data)
+            load, files = ([], {}) if play.file is None else (["--load", "file"], {"file": play.file})
+            yield Call(play.name, "iptsim", [*play.words, *load], files, play.data)
 
 
 def kept_call(folder):
-    """A call that was kept."""
-    words = read(os.path.join(folder, "words")).decode().split("\0")[:-1]
-    files = {word: read(os.path.join(folder, f"file.{number}")) for number, word in enumerate(words, 1)
-             if os.path.exists(os.path.join(folder, f"file.{number}"))}
-    program = os.path.basename(folder).partition(".")[0]
-    return Call(f"guide: {program} {' '.join(words)}", program, words, files, read(os.path.join(folder, "input")))
+    words = (folder / "words").read_text().split("\0")[:-1]
+    places = {word: folder / f"file.{number}" for number, word in enumerate(words, 1)}
+    files = {word: place.read_bytes() for word, place in places.items() if place.exists()}
+    program = folder.name.partition(".")[0]
+    return Call(f"guide: {program} {' '.join(words)}", program, words, files, (folder / "input").read_bytes())
 
 
 def of_guide(programs):
-    """The calls that the documents' commands make."""
     with tempfile.TemporaryDirectory() as work:
-        kept = os.path.join(work, "kept")
-        os.mkdir(kept)
+        kept = pathlib.Path(work, "kept")
+        kept.mkdir()
         stand_ins = {name: script(os.path.join(work, name), KEEPING.format(kept=kept, name=name, program=program)) for name, program in programs.items()}
         for document in guide.DOCUMENTS:
             text = guide.text_of(document)
             came = list(guide.written_by(text, os.path.join(work, "of", document), **stand_ins))
             assert came == [due for _, due in guide.commands_of(text)]
-        return [kept_call(os.path.join(kept, name)) for name in sorted(os.listdir(kept))]
+        return [kept_call(folder) for folder in sorted(kept.iterdir())]
 
 
 def of_dumps(dumps, packets):
     """Questions about each dump (bytes by name), with these packets."""
     for name, data in dumps.items():
-        for words in QUESTIONS:
-            yield Call(f"{name}: {' '.join(words)}", "iptaudit", [*words, name], {name: data}, b"")
-        for words in ASKED:
-            yield Call(f"{name}: {' '.join(words)}", "iptaudit", [*words, name], {name: data}, packets)
+        for words, given in (*((words, b"") for words in QUESTIONS), *((words, packets) for words in ASKED)):
+            yield Call(f"{name}: {' '.join(words)}", "iptaudit", [*words, name], {name: data}, given)
         for other, changed in dumps.items():
             yield Call(f"{name}: compare with {other}", "iptaudit", ["compare", name, other], {name: data, other: changed}, b"")
         for words in (["restore"], ["restore", "--test"], ["restore", "--noflush"]):

@@ -13,11 +13,11 @@ class Server:
         class Handler(http.server.BaseHTTPRequestHandler):
             def do_GET(self):
                 asked.append(self.path)
-                self.send_response(200 if self.path == "/iptsim.html" else 404)
+                is_page = self.path == "/iptsim.html"
+                self.send_response(200 if is_page else 404)
                 self.send_header("Content-Type", "text/html; charset=utf-8")
                 self.end_headers()
-                if self.path == "/iptsim.html":
-                    self.wfile.write(page)
+                self.wfile.write(page if is_page else b"")
 
             do_POST = do_GET
 
