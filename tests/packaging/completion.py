@@ -6,15 +6,18 @@
 - zsh and fish take their files, and complete lines at a terminal, or as they are asked.
 """
 
+import contextlib
 import os
+import pty
 import re
+import select
 import shutil
 import subprocess
+import time
 
 import pytest
 
 from tests import ROOT
-from tests.packaging.parts.terminals import typed
 from tests.shared.row_files import rows_in
 from tests.shared.rows import script, write
 from tools.completing.table import read_commands
@@ -61,13 +64,7 @@ FISH = (
 
 
 def run(command, given="", **more):
-    return subprocess.run(command, input=given.encode(), stdout=subprocess.PIPE, stderr=subprocess.PIPE, check=False, **more)
-
-
-def help_of(path, *words):
-    """What a command says of itself: the programs to standard error, the scripts to standard output."""
-    ended = run([path, *words, "--help"])
-    return (ended.stdout + ended.stderr).decode()
+    return subprocess.run(command, input=given.encode(), capture_output=True, check=False, **more)
 
 
 def of_help(text):
@@ -88,7 +85,9 @@ def test_table(name, subcommand, request, command):
     asked = command(name[len("iptsim-"):]) if name.startswith("iptsim-") else request.getfixturevalue(name)
     below = sorted(other for other in COMMANDS[name].forms if other) if not subcommand else []
     options = sorted(option.name + (" .." if option.value else "") for option in COMMANDS[name].forms[subcommand].options)
-    assert below + options == of_help(help_of(asked.path, *filter(None, [subcommand])))
+    # The programs write it to standard error, the scripts to standard output.
+    ended = run([asked.path, *filter(None, [subcommand]), "--help"])
+    assert below + options == of_help((ended.stdout + ended.stderr).decode())
 
 
 def test_files():
@@ -143,10 +142,34 @@ def start_zsh(work):
     return ["zsh", "-d", "-i"], {"ZDOTDIR": work, "HOME": work}
 
 
+def read_until(master, text, seconds):
+    """What comes from a terminal, up to a text, or for so many seconds."""
+    came, end = b"", time.monotonic() + seconds
+    with contextlib.suppress(OSError):
+        while text not in came and time.monotonic() < end:
+            if select.select([master], [], [], 0.1)[0]:
+                came += os.read(master, 4096)
+    return came
+
+
+def typed(command, environment, folder, begins, keys, ends, seconds=30):
+    """Starts a shell, types keys when `begins` was written, and returns what comes after them, up to `ends`."""
+    master, slave = pty.openpty()
+    shell = subprocess.Popen(command, stdin=slave, stdout=slave, stderr=slave, cwd=folder, env=environment, start_new_session=True)
+    os.close(slave)
+    try:
+        read_until(master, begins, seconds)
+        os.write(master, keys)
+        return read_until(master, ends, seconds)
+    finally:
+        shell.kill()
+        shell.wait()
+        os.close(master)
+
+
 @pytest.mark.parametrize("start", [start_bash, start_zsh], ids=["bash", "zsh"])
 @pytest.mark.parametrize("keys, due", TYPED, ids=[keys.strip() for keys, _ in TYPED])
 def test_typed(keys, due, start, work):
-    """A line that is typed at a terminal."""
     command, environment = start(work)
     path = f"{os.path.join(work, 'tools')}:{os.environ['PATH']}"
     came = typed(command, dict(environment, PATH=path, TERM="dumb"), os.path.join(work, "files"), b"READY", keys.encode() + b"\n", b">END")
@@ -162,7 +185,6 @@ def test_zsh_takes_the_file():
 
 
 def fish(work, *words):
-    """What fish says, with these words."""
     need("fish")
     environment = {"PATH": f"{os.path.join(work, 'tools')}:{os.environ['PATH']}", "HOME": work, "XDG_DATA_DIRS": SHARE}
     return run(["fish", *words], cwd=os.path.join(work, "files"), env=environment)

@@ -7,6 +7,7 @@ Each first answer comes within a second of a processor.
 """
 
 import os
+import pathlib
 import shutil
 import stat
 import subprocess
@@ -27,24 +28,20 @@ NAMED += "release: the page is the one that IPTSIM_PAGE names\n"
 
 def ran(command, environment, messages="", cwd=None):
     """Runs a command that has to end with status 0 and write these messages to standard error."""
-    ended = subprocess.run(command, env=environment, cwd=cwd, stdin=subprocess.DEVNULL, stdout=subprocess.PIPE, stderr=subprocess.PIPE, check=False)
+    ended = subprocess.run(command, env=environment, cwd=cwd, stdin=subprocess.DEVNULL, capture_output=True, check=False)
     same((0, messages.encode()), (ended.returncode, ended.stderr), " ".join(command))
 
 
 def tree(folder):
     """What lies in a folder, with modes and bytes, or what a link names."""
     found = {}
-    for inside, folders, names in os.walk(folder):
-        for name in folders + names:
-            path = os.path.join(inside, name)
-            mode = os.lstat(path).st_mode
-            data = os.readlink(path) if stat.S_ISLNK(mode) else b"" if stat.S_ISDIR(mode) else open(path, "rb").read()
-            found[os.path.relpath(path, folder)] = (stat.filemode(mode), data)
+    for path in pathlib.Path(folder).rglob("*"):
+        data = os.readlink(path) if path.is_symlink() else b"" if path.is_dir() else path.read_bytes()
+        found[str(path.relative_to(folder))] = (stat.filemode(path.lstat().st_mode), data)
     return found
 
 
 def differing(due, came):
-    """The files in which two trees differ."""
     return sorted(place for place in due.keys() | came.keys() if due.get(place) != came.get(place))
 
 
@@ -71,19 +68,17 @@ def top(shared_folder, environment, packing):
 
 
 def installed_of(top):
-    """What is installed of the files of the archive's folder."""
     return {place: each for place, each in tree(top).items() if place.split("/")[0] in ("bin", "lib", "share")}
 
 
 def test_rows():
-    """Each command has a row."""
     assert sorted(first_answers.ROWS) == sorted(read_commands(ROOT))
 
 
 @pytest.mark.parametrize("word", ["--help", "PREFIX=here", "DESTDIR=here", "here"])
 def test_words(word, top, environment):
     usage = b"usage: ./install [--remove] [PREFIX=FOLDER] [DESTDIR=FOLDER], where each FOLDER begins with /\n"
-    ended = subprocess.run([os.path.join(top, "install"), word], env=environment, stdout=subprocess.PIPE, stderr=subprocess.PIPE, check=False)
+    ended = subprocess.run([os.path.join(top, "install"), word], env=environment, capture_output=True, check=False)
     same((2, b"", usage), (ended.returncode, ended.stdout, ended.stderr))
 
 
@@ -95,7 +90,6 @@ def test_folder(top, environment):
 
 
 def test_install(top, environment, folder):
-    """Installed from there, and taken away."""
     due, words, prefix = installed_of(top), ["PREFIX=/opt/of its own", f"DESTDIR={folder}"], os.path.join(folder, "opt", "of its own")
     ran(["/bin/sh", "-c", 'umask 077; exec "$0" "$@"', os.path.join(top, "install"), *words], environment)
     assert differing(due, tree(prefix)) == []
@@ -106,19 +100,16 @@ def test_install(top, environment, folder):
 
 
 def test_guide(top, folder):
-    """The commands of the guide, by those of the archive."""
-    with open(os.path.join(top, "share", "doc", "iptsim", "GUIDE.md"), encoding="utf-8") as file:
-        shown = list(guide.commands_of(file.read()))
-    shutil.copytree(os.path.join(top, "share", "doc", "iptsim", "examples"), os.path.join(folder, "examples"))
+    documents = pathlib.Path(top, "share", "doc", "iptsim")
+    shown = list(guide.commands_of((documents / "GUIDE.md").read_text(encoding="utf-8")))
+    shutil.copytree(documents / "examples", os.path.join(folder, "examples"))
     programs = {name: os.path.join(top, "bin", name) for name in read_commands(ROOT)}
     for (command, due), came in zip(shown, follow([command for command, _ in shown], folder, **programs)):
         same((due,), (came,), command)
 
 
+@pytest.mark.skipif(not shutil.which("make"), reason="make isn't there")
 def test_make(top, packing, folder):
-    """`make install` of the sources, and `make uninstall`."""
-    if shutil.which("make") is None:
-        pytest.skip("make isn't there")
     words = ["PREFIX=/usr", f"DESTDIR={folder}"]
     ran(["make", "-s", "-C", ROOT, "install", *words], packing, NAMED)
     assert differing(installed_of(top), tree(os.path.join(folder, "usr"))) == []

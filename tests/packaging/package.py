@@ -13,7 +13,7 @@ import pytest
 
 from tests import ROOT
 from tests.packaging.parts import first_answers
-from tests.shared.rows import same
+from tests.shared.rows import same, write
 
 pytestmark = pytest.mark.xdist_group("packaging/package")
 STATUS = """\
@@ -28,7 +28,7 @@ Description: a stand-in
 
 
 def call(command, **more):
-    return subprocess.run(command, stdin=subprocess.DEVNULL, stdout=subprocess.PIPE, stderr=subprocess.PIPE, text=True, check=False, **more)
+    return subprocess.run(command, stdin=subprocess.DEVNULL, capture_output=True, text=True, check=False, **more)
 
 
 def made(folder, mask, variables):
@@ -36,7 +36,7 @@ def made(folder, mask, variables):
     os.mkdir(folder)
     ended = call(["/bin/sh", "-c", f'umask {mask}; exec "$0" "$@"', os.path.join(ROOT, "tools", "release"), folder], env={**os.environ, **variables})
     assert ended.returncode == 0, ended.stderr
-    return {file: open(os.path.join(folder, file), "rb").read() for file in sorted(os.listdir(folder))}
+    return {file: pathlib.Path(folder, file).read_bytes() for file in sorted(os.listdir(folder))}
 
 
 @pytest.fixture(scope="module")
@@ -55,22 +55,20 @@ def field(package, name):
 
 
 def test_version(package):
-    version = re.escape(pathlib.Path(os.path.join(ROOT, "VERSION")).read_text(encoding="ascii").strip())
+    version = re.escape(pathlib.Path(ROOT, "VERSION").read_text(encoding="ascii").strip())
     assert re.fullmatch(version + r"(\+changed|\+unversioned)?", field(package, "Version"))
 
 
 def test_needs(package, iptsim, iptaudit):
     """The number of the C library is the largest that ldd names."""
-    needed = []
-    for program in (iptsim, iptaudit):
-        needed += re.findall(r"^\t\tlibc\.so\.6 \(GLIBC_([0-9.]+)\)", call(["ldd", "-v", program.path]).stdout, re.MULTILINE)
+    said = "".join(call(["ldd", "-v", program.path]).stdout for program in (iptsim, iptaudit))
+    needed = re.findall(r"^\t\tlibc\.so\.6 \(GLIBC_([0-9.]+)\)", said, re.MULTILINE)
     newest = max(needed, key=lambda each: [int(part) for part in each.split(".")])
     assert field(package, "Depends") == f"libc6 (>= {newest}), python3 (>= 3.9)"
 
 
+@pytest.mark.skipif(not shutil.which("lintian"), reason="lintian isn't there")
 def test_lintian(package):
-    if shutil.which("lintian") is None:
-        pytest.skip("lintian isn't there")
     # Without strip, programs have symbols.
     suppressed = [] if shutil.which("strip") else ["--suppress-tags", "unstripped-binary-or-object"]
     ended = call(["lintian", "--fail-on", "error", *suppressed, package])
@@ -79,12 +77,9 @@ def test_lintian(package):
 
 def new_root(root, library, python):
     """A root for dpkg, in which the C library and Python count as installed in these versions."""
-    for folder in ("info", "updates", "triggers"):
-        os.makedirs(os.path.join(root, "var/lib/dpkg", folder))
-    texts = {"arch": "amd64\n", "info/libc6.list": "", "info/python3.list": "",
-             "status": STATUS.format(name="libc6", version=library) + STATUS.format(name="python3", version=python)}
-    for name, text in texts.items():
-        pathlib.Path(os.path.join(root, "var/lib/dpkg", name)).write_text(text, encoding="ascii")
+    status = STATUS.format(name="libc6", version=library) + STATUS.format(name="python3", version=python)
+    write(os.path.join(root, "var/lib/dpkg"), {"updates/": b"", "triggers/": b"", "arch": b"amd64\n", "info/libc6.list": b"", "info/python3.list": b"",
+                                               "status": status.encode()})
 
 
 def dpkg(root, *words):
@@ -112,14 +107,6 @@ def test_places(package):
     assert [place for place in files_in(package) if re.search(r"/_iptsim$|/copyright$|/LICENSE$|/changelog|/man1/.", place)] == PLACES
 
 
-def pythons(root):
-    """What the starters of commands run."""
-    starters, found = os.path.join(root, "usr", "lib", "iptsim", "bin"), set()
-    for name in os.listdir(starters):
-        found |= set(re.findall(rb"\bexec (\S+)", pathlib.Path(os.path.join(starters, name)).read_bytes()))
-    return b" ".join(sorted(found))
-
-
 @pytest.fixture
 def root(folder):
     """An empty root, where dpkg may make one."""
@@ -135,7 +122,8 @@ def test_install(package, root, folder):
     assert (ended.returncode, ended.stderr) == (0, "")
     first_answers.ask(os.path.join(root, "usr", "bin"), first_answers.path_of_links(os.path.join(folder, "links")))
     same(("\n".join(files_in(package)),), ("\n".join(files_of(root)),))
-    assert pythons(root) == b"/usr/bin/python3"
+    starters = [path.read_bytes() for path in pathlib.Path(root, "usr", "lib", "iptsim", "bin").iterdir()]
+    assert {python for starter in starters for python in re.findall(rb"\bexec (\S+)", starter)} == {b"/usr/bin/python3"}
     ended = dpkg(root, "--remove", "iptsim")
     assert (ended.returncode, ended.stderr, files_of(root)) == (0, "", [])
     ended = dpkg(root, "--status", "iptsim")
@@ -144,7 +132,6 @@ def test_install(package, root, folder):
 
 @pytest.mark.parametrize("library, python, missing", [("2.19-18", "3.11.2-1", "libc6"), ("2.36-9", "3.7.3-1", "python3")], ids=["libc6", "python3"])
 def test_older(library, python, missing, package, root):
-    """In a root in which what it needs is too old."""
     new_root(root, library, python)
     ended = dpkg(root, "--install", package)
     assert (ended.returncode, re.findall(r"iptsim depends on (\S+) ", ended.stderr)) == (1, [missing])

@@ -1,1 +1,1 @@
-"""First answers of installed commands, and shells at terminals."""
+"""First answers of installed commands."""

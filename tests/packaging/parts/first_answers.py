@@ -43,20 +43,17 @@ MOST = 1.0
 
 def stand_in_page(folder):
     """The path of a file that stands for the page with both programs, which tests/page/page opens."""
-    path = os.path.join(folder, "a page")
-    with open(path, "w", encoding="utf-8") as file:
-        file.write("<!doctype html>\n<title>iptsim</title>\n")
-    return path
+    write(folder, {"a page": b"<!doctype html>\n<title>iptsim</title>\n"})
+    return os.path.join(folder, "a page")
 
 
 def path_of_links(folder):
     """An environment in which PATH has coreutils and python3 alone, by links in a folder. No variable names a program."""
     os.mkdir(folder)
-    for name in COREUTILS:
-        found = shutil.which(name)
-        if found:
-            os.symlink(found, os.path.join(folder, name))
-    os.symlink(os.path.realpath(sys.executable), os.path.join(folder, "python3"))
+    found = {**{name: shutil.which(name) for name in COREUTILS}, "python3": os.path.realpath(sys.executable)}
+    for name, path in found.items():
+        if path:
+            os.symlink(path, os.path.join(folder, name))
     return {"PATH": folder, "LC_ALL": "C.UTF-8"}
 
 
@@ -71,8 +68,7 @@ def ask(folder, environment):
         with tempfile.TemporaryDirectory() as work:
             write(work, FILES)
             before = taken()
-            ended = subprocess.run([os.path.join(folder, name), *row.words], cwd=work, env=environment, input=row.given,
-                                   stdout=subprocess.PIPE, stderr=subprocess.PIPE, check=False)
+            ended = subprocess.run([os.path.join(folder, name), *row.words], cwd=work, env=environment, input=row.given, capture_output=True, check=False)
             took, left = taken() - before, set(os.listdir(work)) - set(FILES)
         same((row.status, row.output, row.messages, set()), (ended.returncode, ended.stdout, ended.stderr, left), f"what came of {name} in {folder}")
         assert (name, took) < (name, MOST)
