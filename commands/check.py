@@ -33,93 +33,102 @@ The environment variable IPTSIM names the program. Without it the installed prog
 date, and otherwise bin/quick, which is slow.
 """
 
-import argparse
 import os
 import sys
 
-from commands import json_report, sessions
-from commands.advice import advice
+from commands import at_fault, json_documents
 from commands.dump import examine, findings
-from commands.families import of_ipv6
 from commands.findings import shown, text_of
-from commands.places import called, command
-from commands.program import Unreadable, complain, finish, lines_of, read
-from commands.walk_documents import write_document
+from commands.kinds import of_ipv6
+from commands.places import command
+from commands.program import Unreadable, complain, finish, lines_of, parser, read
+from commands.refused import SESSION_WORDS
 
 
-class Text:
-    """Findings as lines of text, file by file."""
-
-    def file(self, name, found, sentences, passed):
-        prefix = os.fsencode(name) + b":"
-        for each in found:
-            sys.stdout.buffer.write(prefix + (b"%d:" % each.line if each.line else b"") + b" " + text_of(each) + b"\n")
-        for words, sentence in sentences:
-            about = b", ".join([shown(word) for word in words[:8]] + [b".."] * (len(words) > 8))
-            sys.stdout.buffer.write(prefix + b" " + about + b": " + sentence + b"\n")
-        if passed:
-            more = f", and {len(passed) - 1} more" if len(passed) > 1 else ""
-            complain(called(), f"{name}:{passed[0]}: a rule for IPv6 only{more}: skipped, as by iptables-restore, but {command('iptsim')}"
-                     f" refuses it; {command('fit')} removes it")
-
-    def unreadable(self, name, trouble):
-        complain(called(), trouble)
-
-    def end(self):
-        pass
-
-
-class Json:
-    """Findings as one document."""
-
-    def __init__(self):
-        self.files = []
-
-    def file(self, name, found, sentences, passed):
-        self.files.append(json_report.file(name, found, sentences, passed))
-
-    def unreadable(self, name, trouble):
-        complain(called(), trouble)
-        self.files.append(json_report.file(name, error=str(trouble)))
-
-    def end(self):
-        write_document(json_report.document(self.files))
+COPY = f" iptaudit reads the dump as it is; {command('fit')} writes a copy for trials in which it always matches, or never does, as you state."
+PORTS = (b"--sport", b"--source-port", b"--dport", b"--destination-port",
+         b"--sports", b"--source-ports", b"--dports", b"--destination-ports", b"--ports")
+ADDRESSES = (b"-s", b"--source", b"--src", b"-d", b"--destination", b"--dst")
+# Code, options and words of which one is refused (any where there are none), and what to do.
+ADVICE = (
+    ("P7", (), (b"limit", b"hashlimit", b"recent", b"connlimit", b"quota", b"statistic"),
+     "a stateful match: its result depends on earlier packets." + COPY),
+    ("P7", (), (), "a match that iptsim lacks: most of these test what a packet line doesn't say." + COPY),
+    ("P3", PORTS, (), "a port has to be a number: `getent services NAME` prints that of a name."),
+    ("P3", (b"-p", b"--protocol"), (), "iptsim knows thirteen protocols by name: `getent protocols NAME` prints the number of another."),
+    ("P3", ADDRESSES, (), "an address has to be a.b.c.d or a.b.c.d/n: write a rule for each address of a list, and the address of a name."),
+    ("P1", (), (), f"an option that iptsim lacks, or one that is not written in full. {command('fit')} removes it where the rule gives no verdict,"
+     " as with TCPMSS, NFLOG or MARK."),
+    ("P12", (), (b"multiport",), "write its option in full: --sports, --dports or --ports."),
+    ("C1", (), SESSION_WORDS, "a line of a dump begins with its command, such as -A."),
+    ("T1", (), (), "no such chain: make it with a line `:NAME - [0:0]` above."),
+    ("T11", (), (), "neither a chain nor a target of iptsim: make a chain with a line `:NAME - [0:0]` above."),
+    ("R4", (), (), "a section ends with the line COMMIT: is the file complete?"),
+)
 
 
-def check(name, report):
-    """Checks a dump, and returns its status."""
+def advice(refused):
+    """The sentences about the refused lines, each with the words that it is about."""
+    words = {}
+    for line in refused:
+        for code, options, named, sentence in ADVICE:
+            if line.fault.code == code and (not options or line.option in options) and (not named or line.value in named):
+                about = words.setdefault(sentence, [])
+                if line.word not in about:
+                    about.append(line.word)
+                break
+    return [(about, sentence.encode()) for sentence, about in words.items()]
+
+
+def write_text(name, found, sentences, passed):
+    """Writes what is found of a file as lines of text."""
+    prefix = os.fsencode(name) + b":"
+    for each in found:
+        sys.stdout.buffer.write(prefix + (b"%d:" % each.line if each.line else b"") + b" " + text_of(each) + b"\n")
+    for words, sentence in sentences:
+        about = b", ".join([shown(word) for word in words[:8]] + [b".."] * (len(words) > 8))
+        sys.stdout.buffer.write(prefix + b" " + about + b": " + sentence + b"\n")
+    if passed:
+        more = f", and {len(passed) - 1} more" if len(passed) > 1 else ""
+        complain(f"{name}:{passed[0]}: a rule for IPv6 only{more}: skipped, as by iptables-restore, but {command('iptsim')}"
+                 f" refuses it; {command('fit')} removes it")
+
+
+def check(name, words):
+    """What is wrong with a dump, or with the lines of a session; the sentences about it; and the lines that are passed over."""
     data = read(name)
+    if words.session:
+        return at_fault.examine(data, words.load), (), ()
     notes, refused = examine(data)
-    found = findings(notes, refused)
-    report.file(name, found, advice(refused), of_ipv6(lines_of(data)))
-    return 1 if found else 0
-
-
-def check_session(name, load, report):
-    """Checks the lines of a session, and returns its status."""
-    found = sessions.examine(read(name), load)
-    report.file(name, found, (), ())
-    return 1 if found else 0
+    return findings(notes, refused), advice(refused), of_ipv6(lines_of(data))
 
 
 def main():
-    parser = argparse.ArgumentParser(prog=called(), description=__doc__, formatter_class=argparse.RawDescriptionHelpFormatter)
-    parser.add_argument("--session", action="store_true", help="each FILE has lines of a session")
-    parser.add_argument("--load", metavar="DUMP", help="with --session: the table that the session begins with")
-    parser.add_argument("--json", action="store_true", help="write one JSON document")
-    parser.add_argument("files", metavar="FILE", nargs="+")
-    words = parser.parse_args()
+    reader = parser(__doc__)
+    reader.add_argument("--session", action="store_true", help="each FILE has lines of a session")
+    reader.add_argument("--load", metavar="DUMP", help="with --session: the table that the session begins with")
+    reader.add_argument("--json", action="store_true", help="write one JSON document")
+    reader.add_argument("files", metavar="FILE", nargs="+")
+    words = reader.parse_args()
     if words.load is not None and not words.session:
-        parser.error("--load goes with --session")
-    report, status = Json() if words.json else Text(), 0
+        reader.error("--load goes with --session")
+    files, status = [], 0
     for name in words.files:
+        told, error = ((), (), ()), None
         try:
-            status = max(status, check_session(name, words.load, report) if words.session else check(name, report))
+            told = check(name, words)
         except Unreadable as trouble:
-            report.unreadable(name, trouble)
-            status = 2
-    report.end()
+            complain(trouble)
+            error = str(trouble)
+        if words.json:
+            files.append(json_documents.checked_file(name, *told, error))
+        else:
+            write_text(name, *told)
+        status = max(status, 2 if error else 1 if told[0] else 0)
+    if words.json:
+        counts = {"files": len(files), "loading": sum(each["loads"] for each in files), "faults": sum(len(each["faults"]) for each in files)}
+        json_documents.write({"files": files, "counts": counts})
     return status
 
 
-finish(called(), main)
+finish(main)

@@ -24,18 +24,12 @@ def crates_of(top, made):
     return found
 
 
-def entries(folder):
-    """A folder and all that lies in it."""
-    for path, inner, names in os.walk(folder):
-        yield path
-        yield from (os.path.join(path, name) for name in inner + names)
-
-
 def is_built(top, made, program):
     """Whether the proved program is there, and nothing of its crates is newer, nor crates.txt."""
     if not os.access(program, os.X_OK):
         return False
     built = os.stat(program).st_mtime_ns
-    folders = [os.path.join(top, "crates", crate, folder) for crate in crates_of(top, made) for folder in FOLDERS]
-    sources = [os.path.join(top, "crates.txt"), *(path for folder in folders for path in entries(folder))]
+    sources = [os.path.join(top, "crates.txt")]
+    for folder in (os.path.join(top, "crates", crate, folder) for crate in crates_of(top, made) for folder in FOLDERS):
+        sources += [os.path.join(path, name) for path, inner, names in os.walk(folder) for name in [".", *inner, *names]]
     return all(os.lstat(path).st_mtime_ns <= built for path in sources)

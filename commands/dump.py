@@ -1,9 +1,8 @@
 """What bin/check and bin/fit share: what is wrong with a dump, as a file and line by line."""
 
-from commands.families import for_ipv4
 from commands.findings import Finding, of_fault, text_of
-from commands.kinds import not_a_dump
-from commands.program import FAULT, Fault, Trouble, lines_of, run
+from commands.kinds import for_ipv4, not_a_dump
+from commands.program import FAULT, Trouble, fault_of, lines_of, run
 from commands.refused import Reading, Refused, refused_lines
 
 BYTE_ORDER_MARK = b"\xef\xbb\xbf"
@@ -32,7 +31,7 @@ def first_fault(lines):
     found = FAULT.fullmatch(output.rstrip(b"\n"))
     if not found:
         raise Trouble(f"the program ended with status {status} and named no line")
-    return Refused(int(found.group(1)), Fault(found.group(3).decode(), found.group(2)), None, b"", b"")
+    return Refused(int(found[1]), fault_of(found), None, b"", b"")
 
 
 def examine(data):

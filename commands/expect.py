@@ -22,24 +22,26 @@ output then has `Bail out!`. The environment variable IPTSIM names the program. 
 the proved one if it is up to date, and otherwise bin/quick, which is slow.
 """
 
-import argparse
 import collections
 import os
 import re
 import sys
+import xml.etree.ElementTree as ElementTree
 
-from commands.junit import Suite, said
 from commands.meant import VALUES
-from commands.places import called
-from commands.program import Trouble, complain, finish, lines_of, read
-from commands.walk_documents import error_objects, rule_object, text, verdict_object, walk_object, write_document
-from commands.walks import TOO_LONG, Answers, Complaint, Unfit, Verdict, complaints_of, text_of
+from commands import json_documents
+from commands.json_documents import rule_object, text, verdict_object, walk_object
+from commands.program import Trouble, finish, lines_of, parser, read
+from commands.walks import TOO_LONG, Answers, Complaint, Unfit, Verdict, bail_out, packet_lines, text_of
 
 ARROW = re.compile(rb"(.*?)[ \t]+->(?:[ \t]+(.*))?")
 GLUED = re.compile(rb"[ \t]->")
 VERDICT = re.compile(rb"(ACCEPT|DROP|TOOLONG|REJECT(?: (\S+))?)(?: by (rule|policy|(\S+) ([1-9][0-9]*)))?")
 NOT_DUE = b"no verdict is expected"
 RESULTS = {True: "passed", False: "failed", None: "shown"}
+
+# What no XML document may have, and newlines in names.
+FORBIDDEN = re.compile("[\x00-\x08\x0b-\x1f\x7f\ufffe\uffff]")
 
 # A packet line with its number in the file; `due` is a Verdict in which None is any, or None.
 Expected = collections.namedtuple("Expected", "number packet due")
@@ -72,40 +74,16 @@ def expected_of(number, line):
 
 
 def read_expected(name):
-    """The packets of EXPECTED with what is due."""
-    packets, complaints = [], []
-    for number, line in enumerate(lines_of(read(name)), 1):
-        line = line.strip(b" \t\r")
-        if line[:1] in (b"", b"#"):
-            continue
-        found = expected_of(number, line)
-        if isinstance(found, Expected):
-            packets.append(found)
-        else:
-            complaints.append(Complaint(f"{name}:{number}: {found}", name, number))
-    if not packets and not complaints:
-        complaints.append(Complaint(f"{name}: has no packet line", name))
-    if complaints:
-        raise Unfit(complaints)
-    return packets
+    found = [(number, expected_of(number, line)) for number, line in packet_lines(lines_of(read(name)))]
+    complaints = [Complaint(f"{name}:{number}: {each}", name, number) for number, each in found if not isinstance(each, Expected)]
+    if complaints or not found:
+        raise Unfit(complaints or [Complaint(f"{name}: has no packet line", name)])
+    return [each for _, each in found]
 
 
 def is_due(due, came):
     by_rule = due.by == b"rule" and isinstance(came.by, tuple)
     return due.name == came.name and due.kind in (None, came.kind) and (due.by in (None, came.by) or by_rule)
-
-
-def outcomes_of(words):
-    """What the program answers of RULES and the packets, and what became of each packet of EXPECTED."""
-    packets = read_expected(words.expected)
-
-    def blamed(place, why):
-        number = packets[place].number
-        return Complaint(f"{words.expected}:{number}: {why}", words.expected, number)
-
-    answers = Answers(words.rules, [each.packet for each in packets], blamed)
-    return answers, [Outcome(each, walk, is_due(each.due, walk.verdict) if each.due else None)
-                     for each, walk in zip(packets, answers.walks)]
 
 
 def described(expected):
@@ -132,7 +110,6 @@ def notes(outcomes, answers, is_quiet):
 
 
 def tap(words, outcomes, answers):
-    """The lines of TAP."""
     yield b"1..%d" % len(outcomes)
     for place, outcome in enumerate(outcomes, 1):
         begin = b"not ok" if outcome.right is False else b"ok"
@@ -145,7 +122,6 @@ def tap(words, outcomes, answers):
 
 
 def document(words, outcomes, answers):
-    """What --json writes."""
     packets = []
     for outcome in outcomes:
         due = {"due": verdict_object(outcome.expected.due)} if outcome.expected.due else {}
@@ -155,33 +131,52 @@ def document(words, outcomes, answers):
     return found if words.quiet else {**found, "unmatched": [rule_object(step, answers.rule(step)) for step in answers.unmatched()]}
 
 
+def clean(text):
+    """A text without what XML forbids, which is written as \\xNN."""
+    return FORBIDDEN.sub(lambda found: found.group().encode("unicode_escape").decode(), text)
+
+
+def put(case, tag, message, lines):
+    """Says of a test that it failed, could not be run or was skipped."""
+    ElementTree.SubElement(case, tag, message=clean(message)).text = clean("\n".join(lines)) or None
+
+
+def case_of(words, name, line=None):
+    """A test, which is passed where nothing else is said of it."""
+    found = ElementTree.Element("testcase", classname=clean(text(words.expected)), name=clean(name), file=clean(text(words.expected)))
+    if line:
+        found.set("line", str(line))
+    return found
+
+
+def xml_of(words, cases, output=""):
+    """The document of the tests of EXPECTED, in their order."""
+    counts = {word: str(sum(case.find(tag) is not None for case in cases))
+              for word, tag in (("failures", "failure"), ("errors", "error"), ("skipped", "skipped"))}
+    root = ElementTree.Element("testsuites")
+    found = ElementTree.SubElement(root, "testsuite", name=clean(text(words.expected)), tests=str(len(cases)), **counts)
+    found.extend(cases)
+    if output:
+        ElementTree.SubElement(found, "system-out").text = clean(output)
+    ElementTree.indent(root)
+    return ElementTree.tostring(root, encoding="utf-8", xml_declaration=True) + b"\n"
+
+
 def suite(words, outcomes, answers):
     """What --junit writes: each packet is a test, named with its line, since no two tests may have one name."""
-    found = Suite(text(words.expected))
+    cases = []
     for outcome in outcomes:
         number = outcome.expected.number
-        case = found.case(f"line {number}: {text(described(outcome.expected))}", number)
+        cases.append(case_of(words, f"line {number}: {text(described(outcome.expected))}", number))
         if not outcome.right:
             lines = [text(line) for line in details(outcome, answers)]
             tag, message = ("skipped", text(NOT_DUE)) if outcome.right is None else ("failure", "; ".join(lines[:2]))
-            said(case, tag, message, "\n".join(lines))
-    found.output = "\n".join(text(line) for line in notes(outcomes, answers, words.quiet))
-    return found.document()
-
-
-def broken_suite(words, complaints):
-    """What --junit writes where an input can't be used."""
-    found = Suite(text(words.expected))
-    said(found.case("the inputs"), "error", text(complaints[0].text), "\n".join(text(each.text) for each in complaints))
-    return found.document()
+            put(cases[-1], tag, message, lines)
+    return xml_of(words, cases, "\n".join(text(line) for line in notes(outcomes, answers, words.quiet)))
 
 
 def is_passed(outcomes):
     return all(outcome.right is not False for outcome in outcomes)
-
-
-def write(line):
-    sys.stdout.buffer.write(line + b"\n")
 
 
 def write_file(name, data):
@@ -192,52 +187,36 @@ def write_file(name, data):
         raise Trouble(f"cannot write {name}: {error.strerror}") from error
 
 
-def bail_out(words, complaints, status):
-    """Says why an input can't be used: on standard error, and in each form that is asked for. Returns the status."""
-    for each in complaints:
-        complain(called(), each.text)
+def main():
+    reader = parser(__doc__, allow_abbrev=False)
+    reader.add_argument("-q", "--quiet", action="store_true", help="leave out the rules that no packet matched")
+    reader.add_argument("--json", action="store_true", help="write one JSON document in place of TAP")
+    reader.add_argument("--junit", metavar="FILE", help="write JUnit XML into FILE, too")
+    reader.add_argument("rules", metavar="RULES")
+    reader.add_argument("expected", metavar="EXPECTED")
+    words = reader.parse_args()
+    if words.rules == words.expected == "-":
+        reader.error("RULES and EXPECTED can't both be standard input")
+    try:
+        packets, name = read_expected(words.expected), words.expected
+        answers = Answers(words.rules, [(each.number, each.packet) for each in packets], name + ":", name)
+        outcomes = [Outcome(each, walk, is_due(each.due, walk.verdict) if each.due else None) for each, walk in zip(packets, answers.walks)]
+    except (Unfit, Trouble) as trouble:
+        said, status = bail_out(trouble, words.json)
+        if not words.json:
+            sys.stdout.buffer.write(b"Bail out!  " + os.fsencode(said[0]) + b"\n")
+        if words.junit:
+            case = case_of(words, "the inputs")
+            put(case, "error", text(said[0]), [text(each) for each in said])
+            write_file(words.junit, xml_of(words, [case]))
+        return status
     if words.json:
-        write_document(error_objects(complaints))
+        json_documents.write(document(words, outcomes, answers))
     else:
-        write(b"Bail out!  " + os.fsencode(complaints[0].text))
-    if words.junit:
-        write_file(words.junit, broken_suite(words, complaints))
-    return status
-
-
-def report(words, outcomes, answers):
-    if words.json:
-        write_document(document(words, outcomes, answers))
-    else:
-        for line in tap(words, outcomes, answers):
-            write(line)
+        sys.stdout.buffer.writelines(line + b"\n" for line in tap(words, outcomes, answers))
     if words.junit:
         write_file(words.junit, suite(words, outcomes, answers))
-
-
-def read_words():
-    parser = argparse.ArgumentParser(prog=called(), description=__doc__, formatter_class=argparse.RawDescriptionHelpFormatter,
-                                     allow_abbrev=False)
-    parser.add_argument("-q", "--quiet", action="store_true", help="leave out the rules that no packet matched")
-    parser.add_argument("--json", action="store_true", help="write one JSON document in place of TAP")
-    parser.add_argument("--junit", metavar="FILE", help="write JUnit XML into FILE, too")
-    parser.add_argument("rules", metavar="RULES")
-    parser.add_argument("expected", metavar="EXPECTED")
-    words = parser.parse_args()
-    if words.rules == words.expected == "-":
-        parser.error("RULES and EXPECTED can't both be standard input")
-    return words
-
-
-def main():
-    words = read_words()
-    try:
-        answers, outcomes = outcomes_of(words)
-    except (Unfit, Trouble) as trouble:
-        return bail_out(words, *complaints_of(trouble))
-    report(words, outcomes, answers)
     return 0 if is_passed(outcomes) else 1
 
 
-if __name__ == "__main__":
-    finish(called(), main)
+finish(main)

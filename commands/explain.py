@@ -17,56 +17,24 @@ names the program. Without it the installed program is run; in a checkout the pr
 which is slow.
 """
 
-import argparse
-import collections
 import os
 import sys
 
-from commands.places import called
-from commands.program import Trouble, complain, finish, lines_of, read
-from commands.walk_documents import error_objects, text, walk_object, write_document
-from commands.walks import TOO_LONG, Answers, Complaint, Unfit, complaints_of, text_of
+from commands import json_documents
+from commands.json_documents import text, walk_object
+from commands.program import Trouble, finish, lines_of, parser, read
+from commands.walks import TOO_LONG, Answers, Complaint, Unfit, bail_out, packet_lines, text_of
 from commands.why_not import asked
 
 
-# A packet line with its number in the input.
-Packet = collections.namedtuple("Packet", "number line")
-
-
-def packet_lines(lines):
-    """The packet lines among the lines of an input."""
-    stripped = ((number, line.strip(b" \t\r")) for number, line in enumerate(lines, 1))
-    return [Packet(number, line if line.split()[0] == b"packet" else b"packet " + line)
-            for number, line in stripped if line[:1] not in (b"", b"#")]
-
-
-def read_packets(words):
-    """The packets that are asked about."""
+def answered(words):
+    """The packets that are asked about, each with its number in the input, and what the program answers of RULES and them."""
     lines = [line for each in words.packets for line in os.fsencode(each).split(b"\n")]
-    packets = packet_lines(lines if words.packets else lines_of(read("-")))
+    packets = [(number, line if line.split()[0] == b"packet" else b"packet " + line)
+               for number, line in packet_lines(lines if words.packets else lines_of(read("-")))]
     if not packets:
         raise Unfit([Complaint("there is no packet line")])
-    return packets
-
-
-def answered(words):
-    """The packets, and what the program answers of RULES and them."""
-    packets, place_of = read_packets(words), "packet" if words.packets else "line"
-
-    def blamed(place, why):
-        number = packets[place].number
-        return Complaint(f"{place_of} {number}: {why}", None, number)
-
-    return packets, Answers(words.rules, [each.line for each in packets], blamed)
-
-
-def shown(words, answers, walk):
-    """The rules of a walk that are shown, as pairs of a step and why the rule doesn't match, or None where it does."""
-    return asked(answers, walk) if words.why_not else [(step, None) for step in walk.steps]
-
-
-def values_text(failure):
-    return b", ".join(b"%s is %s" % (field.encode(), value) for field, value in failure.has.items())
+    return packets, Answers(words.rules, packets, "packet " if words.packets else "line ")
 
 
 def paragraph(answers, walk, rules):
@@ -74,7 +42,8 @@ def paragraph(answers, walk, rules):
     yield walk.line
     for step, failure in rules:
         if failure:
-            yield b"    not %s %d: %s: %s" % (*step, failure.listed, values_text(failure))
+            has = b", ".join(b"%s is %s" % (field.encode(), value) for field, value in failure.has.items())
+            yield b"    not %s %d: %s: %s" % (*step, failure.listed, has)
         else:
             yield b"  %s %d: %s" % (*step, answers.rule(step).text)
     if not rules:
@@ -86,54 +55,34 @@ def paragraph(answers, walk, rules):
         yield b"  note: a packet without ct is INVALID, and %s %d tests states" % at
 
 
-def bail_out(words, complaints, status):
-    """Says why an input can't be used, and returns the status."""
-    for each in complaints:
-        complain(called(), each.text)
-    if words.json:
-        write_document(error_objects(complaints))
-    return status
-
-
-def report(words, packets, answers, pairs):
-    """Writes the pairs of a walk and the rules of it that are shown."""
-    if words.json:
-        objects = [{"line": packet.number, **walk_object(answers, *pair)} for packet, pair in zip(packets, pairs)]
-        write_document({"rules": text(words.rules), "packets": objects})
-    else:
-        paragraphs = (b"\n".join(paragraph(answers, *pair)) for pair in pairs)
-        sys.stdout.buffer.write(b"\n\n".join(paragraphs) + b"\n")
-
-
-def read_words():
-    parser = argparse.ArgumentParser(prog=called(), description=__doc__, formatter_class=argparse.RawDescriptionHelpFormatter,
-                                     allow_abbrev=False)
-    parser.add_argument("--why-not", action="store_true", help="say of each rule that doesn't match which condition fails")
-    parser.add_argument("--json", action="store_true", help="write one JSON document")
-    parser.add_argument("rules", metavar="RULES")
-    parser.add_argument("packets", metavar="PACKET", nargs="*", default=[])
-    words, more = parser.parse_known_args()
+def main():
+    reader = parser(__doc__, allow_abbrev=False)
+    reader.add_argument("--why-not", action="store_true", help="say of each rule that doesn't match which condition fails")
+    reader.add_argument("--json", action="store_true", help="write one JSON document")
+    reader.add_argument("rules", metavar="RULES")
+    reader.add_argument("packets", metavar="PACKET", nargs="*", default=[])
+    words, more = reader.parse_known_args()
     # Packets that stand after an option, which the parser leaves over.
     more = [word for word in more if word != "--"]
     unknown = [word for word in more if word.startswith("-")]
     if unknown:
-        parser.error("unrecognized arguments: " + " ".join(unknown))
+        reader.error("unrecognized arguments: " + " ".join(unknown))
     words.packets = [*words.packets, *more]
     if words.rules == "-" and not words.packets:
-        parser.error("RULES can't be standard input where the packets are")
-    return words
-
-
-def main():
-    words = read_words()
+        reader.error("RULES can't be standard input where the packets are")
     try:
         packets, answers = answered(words)
-        pairs = [(walk, shown(words, answers, walk)) for walk in answers.walks]
+        # Beside each walk the rules that are shown, as pairs of a step and why the rule doesn't match, or None where it does.
+        pairs = [(walk, asked(answers, walk) if words.why_not else [(step, None) for step in walk.steps]) for walk in answers.walks]
     except (Unfit, Trouble) as trouble:
-        return bail_out(words, *complaints_of(trouble))
-    report(words, packets, answers, pairs)
+        return bail_out(trouble, words.json)[1]
+    if words.json:
+        objects = [{"line": number, **walk_object(answers, *pair)} for (number, _), pair in zip(packets, pairs)]
+        json_documents.write({"rules": text(words.rules), "packets": objects})
+    else:
+        paragraphs = (b"\n".join(paragraph(answers, *pair)) for pair in pairs)
+        sys.stdout.buffer.write(b"\n\n".join(paragraphs) + b"\n")
     return 0
 
 
-if __name__ == "__main__":
-    finish(called(), main)
+finish(main)

@@ -1,10 +1,10 @@
 """The options of iptables 1.8.9 for rules of the table filter, by the table in options.table: whose each is and what it takes."""
 
 import collections
-import os
+import pathlib
 
 # The table, whose head says how it is read.
-TABLE = os.path.join(os.path.dirname(os.path.realpath(__file__)), "options.table")
+TABLE = pathlib.Path(__file__).resolve().with_name("options.table")
 
 # `place` is the sign before an option, and `values` are the kinds of its values.
 Option = collections.namedtuple("Option", "names values place")
@@ -14,7 +14,6 @@ Extension = collections.namedtuple("Extension", "kind name options sets notes pr
 
 
 def extension_of(row):
-    """One row of the table."""
     kind, name, *words = row.split()
     options, sets, notes, protocols, always, unopposed = [], [], [], (), [], []
     for word in words:
@@ -37,9 +36,7 @@ def extension_of(row):
 
 
 def rows(path):
-    """The rows of the table, each as one line."""
-    with open(path, encoding="ascii") as file:
-        lines = [line for line in file.read().split("\n") if line and line[0] != "#"]
+    lines = [line for line in path.read_text(encoding="ascii").split("\n") if line and line[0] != "#"]
     return "\n".join(lines).replace("\n    ", " ").split("\n")
 
 
@@ -63,14 +60,12 @@ WITHOUT_OPTION = tuple(row.name for row in MATCHES.values() if "alone" in row.no
 
 
 def is_known(extension):
-    """Whether the program knows a match or a target."""
     return extension.kind == "ends" or any(option.place == "=" for option in extension.options)
 
 
 def exact(name, owners):
     """The option of this name: an owner and the option, or None."""
-    found = [(owner, option) for owner in owners for option in owner.options if name in option.names]
-    return found[0] if found else None
+    return next(((owner, option) for owner in owners for option in owner.options if name in option.names), None)
 
 
 def begun(name, owners):

@@ -9,12 +9,10 @@ Finding = collections.namedtuple("Finding", "line code text word more meant", de
 
 
 def visible(text):
-    """A text without control characters."""
     return re.sub(rb"[\x00-\x1f\x7f]", lambda byte: b"\\r" if byte.group() == b"\r" else b"\\x%02x" % byte.group()[0], text)
 
 
 def shown(word):
-    """A word as it is printed."""
     text = visible(word)
     return text if len(text) <= 80 else text[:77] + b"..."
 
@@ -30,5 +28,4 @@ def text_of(finding):
 
 
 def of_fault(number, fault, word, **more):
-    """The finding of a fault, as the program names it."""
     return Finding(number, fault.code, fault.text[len(fault.code) + 1:], word, **more)

@@ -38,19 +38,101 @@ The environment variable IPTSIM names the program. Without it the installed prog
 date, and otherwise bin/quick, which is slow.
 """
 
-import argparse
+import collections
 import os
 import sys
 
 from commands.dump import BYTE_ORDER_MARK, described, examine
-from commands.families import for_ipv4, of_ipv6
-from commands.findings import visible
+from commands.findings import Finding, text_of, visible
 from commands.fitting import Assumption, Fitting
-from commands.kinds import not_a_dump
-from commands.places import called
-from commands.program import complain, finish, lines_of, read
-from commands.several import Row, in_order, merged, open_end
+from commands.kinds import for_ipv4, not_a_dump, of_ipv6
+from commands.program import complain, finish, lines_of, parser, read, words_of
+from commands.refused import BUILT_IN, section_of
 from commands.spelling import Names
+
+# A line with its place, by which it is named.
+Row = collections.namedtuple("Row", "file number line")
+
+
+def in_order(files):
+    """The lines of files one after another: a section takes the place of those before it."""
+    return [Row(name, number, line) for name, lines in files for number, line in enumerate(lines, 1)]
+
+
+def open_end(lines):
+    """What is said of a file that ends within a section, with the line; None where it doesn't."""
+    opened = None
+    for line in lines:
+        if opened is None:
+            opened = line if section_of(line) is not None else None
+        elif line.strip(b" \t") == b"COMMIT":
+            opened = None
+    return (len(lines), text_of(Finding(0, "R4", b"end before COMMIT", opened.strip()))) if opened is not None else None
+
+
+class Section:
+    """The lines of all sections filter in turn, as lines of one. A chain line of a later section for a chain that is there, or had a chain
+    line before, becomes a command: it sets the policy, empties the chain or makes it. `made` are the chains that are there, `lined` those
+    with a chain line, and `earlier` these of the sections before."""
+
+    def __init__(self):
+        self.rows, self.changes, self.opening = [], [], None
+        self.made, self.lined, self.earlier = set(BUILT_IN), set(), set()
+
+    def open(self, row):
+        self.opening = self.opening or row
+        self.earlier = self.made | self.lined if self.rows else set()
+
+    def add(self, row):
+        values = [word.value for word in words_of(row.line) or ()]
+        if values and values[0].startswith(b":"):
+            self.add_chain(row, values[0][1:], values[1:2])
+            return
+        self.rows.append(row)
+        if values[:1] in ([b"-N"], [b"--new-chain"]):
+            self.made.update(values[1:2])
+        elif values[:1] in ([b"-X"], [b"--delete-chain"], [b"-E"], [b"--rename-chain"]):
+            self.made.difference_update(values[1:2] or self.made - set(BUILT_IN))
+            self.made.update(values[2:3])
+
+    def add_chain(self, row, name, policy):
+        if name not in self.earlier:
+            self.rows.append(row)
+            self.lined.add(name)
+        else:
+            lines = [] if name in BUILT_IN and policy == [b"-"] else [self.command(name, policy)]
+            self.rows += [row._replace(line=line) for line in lines]
+            self.changes.append((row, b"chain line of a further section: %s -> %s" % (row.line.strip(), b"".join(lines) or b"nothing")))
+        self.earlier.discard(name)
+        self.made.add(name)
+
+    def command(self, name, policy):
+        if name in BUILT_IN:
+            return b" ".join([b"-P", name, *policy])
+        return (b"-F " if name in self.made else b"-N ") + name
+
+
+def merged(files):
+    """The lines of files as one dump with one section filter, as `iptables-restore --noflush` takes the files one after another; and what
+    was changed."""
+    before, after, section, inside = [], [], Section(), None
+    for row in in_order(files):
+        if inside is None:
+            inside = section_of(row.line)
+            if inside == b"filter":
+                section.open(row)
+                continue
+        elif row.line.strip(b" \t") == b"COMMIT":
+            inside, closes = None, inside
+            if closes == b"filter":
+                continue
+        elif inside == b"filter":
+            section.add(row)
+            continue
+        (after if section.opening else before).append(row)
+    if section.opening:
+        before += [section.opening, *section.rows, section.opening._replace(line=b"COMMIT")]
+    return before + after, section.changes
 
 
 def without_marks(data):
@@ -118,82 +200,59 @@ def sorted_by(files, placed):
 def report(files, left, missing):
     """Names what stands between a dump and its loading, and returns the status."""
     for row, text in sorted_by(files, left):
-        complain(called(), f"{row.file}:" + (f"{row.number}:" if row.number else "") + " " + os.fsdecode(text))
+        complain(f"{row.file}:" + (f"{row.number}:" if row.number else "") + " " + os.fsdecode(text))
     for row, (text, count) in missing:
         more = f", and at {count - 1} more lines" if count > 2 else ", and at another line" if count == 2 else ""
-        complain(called(), f"{row.file}:{row.number}: " + os.fsdecode(visible(text)) + more)
+        complain(f"{row.file}:{row.number}: " + os.fsdecode(visible(text)) + more)
     return 1 if left else 2
 
 
 def write(files, dump, changes, assumptions):
-    """Names the changes, and writes the dump."""
     for row, text in sorted_by(files, changes):
         sys.stderr.buffer.write(os.fsencode(row.file) + b":%d: " % row.number + visible(text) + b"\n")
     for each in assumptions:
         if not each.used:
-            complain(called(), f"--assume '{each.text}' wasn't needed")
+            complain(f"--assume '{each.text}' wasn't needed")
     sys.stdout.buffer.write(dump)
     return 0
 
 
-def end(files, fitted, changes, assumptions):
-    """Writes what was made, or says why nothing was; and returns the status."""
+def fit(files, is_noflush, names, assumptions):
+    """Fits one dump, or the dumps of files as one, and returns the status."""
+    (name, data), named, found = files[0], [name for name, _ in files], None
+    is_alone = len(files) == 1 and not is_noflush
+    if is_alone:
+        found = examine(data)
+        if not any(found) and not of_ipv6(lines_of(data)):
+            return write(named, data, [], assumptions)
+    bare = [(name, *without_marks(data)) for name, data in files]
+    parts = [(name, lines) for name, lines, _ in bare]
+    changes = [(Row(name, number, b""), text) for name, _, marks in bare for number, text in marks]
+    if is_alone:
+        # (what was found of other lines says nothing of these)
+        found = found if whole(parts[0][1]).rstrip(b"\n") == data.rstrip(b"\n") else None
+    else:
+        notes = [(name, not_a_dump(data, lines) or open_end(lines)) for (name, data), (_, lines) in zip(files, parts)]
+        if any(note for _, note in notes):
+            return report(named, [(Row(name, note[0] or 0, b""), note[1]) for name, note in notes if note], [])
+    rows, joined = merged(parts) if is_noflush else (in_order(parts) or [Row(name, 0, b"")], [])
+    fitted = Fitted(rows, found, names, assumptions)
     if fitted.left or fitted.missing:
-        return report(files, fitted.left, fitted.missing)
-    return write(files, fitted.dump, changes + fitted.changes, assumptions)
-
-
-def loads(data, found):
-    """Whether a dump loads as it is, by what examine found."""
-    return not any(found) and not of_ipv6(lines_of(data))
-
-
-def taken_apart(files):
-    """The lines of each file, and the changes of its marks."""
-    parts, changes = [], []
-    for name, data in files:
-        lines, marks = without_marks(data)
-        parts.append((name, lines))
-        changes += [(Row(name, number, b""), text) for number, text in marks]
-    return parts, changes
-
-
-def fit_several(files, is_noflush, names, assumptions):
-    """Fits the dumps of files as one, and returns the status."""
-    named, (parts, changes) = [name for name, _ in files], taken_apart(files)
-    notes = [(name, note) for (name, data), (_, lines) in zip(files, parts) for note in [not_a_dump(data, lines) or open_end(lines)] if note]
-    if notes:
-        return report(named, [(Row(name, number or 0, b""), text) for name, (number, text) in notes], [])
-    rows, joined = merged(parts) if is_noflush else (in_order(parts), [])
-    return end(named, Fitted(rows, None, names, assumptions), changes + joined, assumptions)
-
-
-def fit(name, data, names, assumptions):
-    """Fits one dump, and returns the status."""
-    found = examine(data)
-    if loads(data, found):
-        return write([name], data, [], assumptions)
-    parts, changes = taken_apart([(name, data)])
-    is_same = whole(parts[0][1]).rstrip(b"\n") == data.rstrip(b"\n")
-    rows = in_order(parts) or [Row(name, 0, b"")]
-    return end([name], Fitted(rows, found if is_same else None, names, assumptions), changes, assumptions)
+        return report(named, fitted.left, fitted.missing)
+    return write(named, fitted.dump, changes + joined + fitted.changes, assumptions)
 
 
 def main():
-    usage = "%(prog)s [-h] [--assume WORDS=VALUE].. [--noflush] [--services FILE] [--protocols FILE] FILE.."
-    parser = argparse.ArgumentParser(prog=called(), usage=usage, description=__doc__, formatter_class=argparse.RawDescriptionHelpFormatter)
-    parser.add_argument("--assume", metavar="WORDS=VALUE", action="append", default=[])
-    parser.add_argument("--noflush", action="store_true", help="add each section to those before it")
-    parser.add_argument("--services", metavar="FILE", help="in place of /etc/services")
-    parser.add_argument("--protocols", metavar="FILE", help="in place of /etc/protocols")
-    parser.add_argument("files", metavar="FILE", nargs="+")
-    words = parser.parse_args()
+    reader = parser(__doc__, usage="%(prog)s [-h] [--assume WORDS=VALUE].. [--noflush] [--services FILE] [--protocols FILE] FILE..")
+    reader.add_argument("--assume", metavar="WORDS=VALUE", action="append", default=[])
+    reader.add_argument("--noflush", action="store_true", help="add each section to those before it")
+    reader.add_argument("--services", metavar="FILE", help="in place of /etc/services")
+    reader.add_argument("--protocols", metavar="FILE", help="in place of /etc/protocols")
+    reader.add_argument("files", metavar="FILE", nargs="+")
+    words = reader.parse_args()
     assumptions = [Assumption(text) for text in words.assume]
     names = Names(words.services, words.protocols)
-    files = [(name, read(name)) for name in words.files]
-    if words.noflush or len(files) > 1:
-        return fit_several(files, words.noflush, names, assumptions)
-    return fit(*files[0], names, assumptions)
+    return fit([(name, read(name)) for name in words.files], words.noflush, names, assumptions)
 
 
-finish(called(), main)
+finish(main)

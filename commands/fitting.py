@@ -9,9 +9,8 @@ from commands import extensions
 from commands.findings import visible
 from commands.places import command
 from commands.program import Trouble, words_of
-from commands.quoting import quoted
 from commands.refused import BUILT_IN, filter_lines
-from commands.rule_parts import Rule, Unclear
+from commands.rule_parts import Rule, Unclear, quoted
 from commands.spelling import KINDS, port_range, refused_values
 
 HEAD, HEAD_LIMIT = b"# iptsim-fit: for trials", 1000
@@ -40,7 +39,9 @@ class Assumption:
         extension = extensions.MATCHES.get(self.name)
         if self.name and self.name not in extensions.TARGETS and value in (b"true", b"false"):
             extension = extension or extensions.unknown_match(self.name)
-            self.words = [self.listed(word, extension) for word in words[1:]]
+            # (of an option its first name)
+            found = [extensions.exact(word, [extension]) for word in words[1:]]
+            self.words = [option[1].names[0] if option else word for option, word in zip(found, words[1:])]
         elif len(words) == 1 and self.name in extensions.TARGETS and value in OF_TARGETS:
             extension, self.words = extensions.TARGETS[self.name], []
         else:
@@ -49,12 +50,6 @@ class Assumption:
             why = "gives no verdict" if extension.kind == "passes" else "is known to the program"
             raise Wrong(f"--assume '{text}': {self.name.decode()} {why}")
         self.is_exact = not extension.options
-
-    @staticmethod
-    def listed(word, extension):
-        """A word, or the first name of the option that it is."""
-        found = extensions.exact(word, [extension])
-        return found[1].names[0] if found else word
 
     def is_on(self, condition):
         """Whether its words stand in the condition one after another, or are all of it where the match isn't in the table."""
@@ -76,7 +71,6 @@ def assumed(assumptions, condition):
 
 
 def words_of_part(part):
-    """An option by its first name, with its values."""
     return [part.option.names[0], *(word.value for word in part.values)]
 
 
@@ -95,9 +89,7 @@ class Edits:
     """Changes of one rule: what stands in place of pieces of its line, and what is said of them. A piece may have several texts."""
 
     def __init__(self, rule):
-        self.rule, self.pieces, self.notes = rule, {}, []
-        self.lists = {b"-s": None, b"-d": None}
-        self.loses = False
+        self.rule, self.pieces, self.notes, self.lists, self.loses = rule, {}, [], {b"-s": None, b"-d": None}, False
 
     def say(self, text):
         self.notes.append(text)
@@ -117,10 +109,10 @@ class Edits:
     def never(self):
         """Makes the rule one that matches no packet: its source is no address."""
         sources = [part for part in self.rule.parts if part.option.names[0] == b"-s"]
-        for part in sources[:1]:
-            self.say(b"never matches now: %s -> %s" % (self.rule.text(part.first, part.last), NEVER))
-            self.put(part, [NEVER] * len(self.pieces.get(self.lists[b"-s"], [b""])))
-        if not sources:
+        if sources:
+            self.say(b"never matches now: %s -> %s" % (self.rule.text(sources[0].first, sources[0].last), NEVER))
+            self.put(sources[0], [NEVER] * len(self.pieces.get(self.lists[b"-s"], [b""])))
+        else:
             end = self.rule.words[self.rule.head - 1].end
             self.pieces[end, end] = [b" " + NEVER]
 
@@ -171,10 +163,7 @@ class Fitting:
             elif self.lines[number][:1] != b":":
                 loud.update(re.split(rb'[ \t"]+', self.lines[number]))
         self.quiet = self.chains - loud - set(BUILT_IN)
-        while True:
-            loud = {rule.chain for rule in rules if rule.chain in self.quiet and self.is_loud(rule)}
-            if not loud:
-                break
+        while loud := {rule.chain for rule in rules if rule.chain in self.quiet and self.is_loud(rule)}:
             self.quiet -= loud
 
     def is_loud(self, rule):
@@ -188,8 +177,7 @@ class Fitting:
         """Whether a packet's verdict may depend on whether it matches the rule."""
         if rule.chain in self.quiet or not rule.target:
             return False
-        goes = rule.target.part.option.names[0] == b"-g"
-        return goes or rule.target.extension.name == b"RETURN" or self.is_loud(rule)
+        return rule.target.part.option.names[0] == b"-g" or rule.target.extension.name == b"RETURN" or self.is_loud(rule)
 
     def fitted(self, number):
         """What is written in place of a line: one line or several."""
@@ -350,10 +338,8 @@ class Fitting:
 
     def miss(self, number, name, stated, text):
         """Notes an assumption that is missing, once for all lines that ask the same."""
-        sets = b""
-        if name in self.sets:
-            line, target = self.sets[name]
-            sets = b", which %s sets by -j %s" % (self.place(line), target)
+        line, target = self.sets.get(name, (None, None))
+        sets = b", which %s sets by -j %s" % (self.place(line), target) if target else b""
         first = self.missing.setdefault((name, text), [number, b"state --assume %s: %s%s" % (stated, text, sets), 0])
         first[2] += 1
 

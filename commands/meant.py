@@ -42,12 +42,6 @@ def nearest(word, names):
     return by_form[found[0]] if found and by_form[found[0]] != word else b""
 
 
-def nearest_of_list(text, names):
-    """What is most like the first name of a list that is none."""
-    wrong = [item for item in text.split(b",") if item.upper() not in names and item not in names]
-    return nearest(wrong[0], names) if wrong else b""
-
-
 def meant(code, option, word, chains):
     """What was perhaps meant by a word, by the code of its fault, the option or key whose value it is, and the table's chains."""
     if code == "T1":
@@ -55,7 +49,10 @@ def meant(code, option, word, chains):
     if code == "T11" or (code, option) in (("P3", b"-j"), ("P3", b"--jump")):
         return nearest(word, [*TARGETS, *chains])
     if code in ("P3", "F3"):
-        return nearest_of_list(word, VALUES.get(option, ()))
+        # What is most like the first name of a list that is none.
+        names = VALUES.get(option, ())
+        wrong = [item for item in word.split(b",") if item.upper() not in names and item not in names]
+        return nearest(wrong[0], names) if wrong else b""
     name, equal, value = word.partition(b"=")
     if code == "P1" and equal and name in OPTIONS:
         return name + b" " + value

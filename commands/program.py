@@ -1,5 +1,6 @@
 """What the scripts for users share: how a program is asked, how files and words are read, how a script ends."""
 
+import argparse
 import collections
 import os
 import re
@@ -7,13 +8,17 @@ import signal
 import subprocess
 import sys
 
-from commands.places import program_call
+from commands.places import called, program_call
 
 FAULT = re.compile(rb"line ([0-9]+): (([A-Z]+[0-9]+) .*)")
 QUOTED_OR_PLAIN = re.compile(rb'(?:"((?:[^"\\]|\\.)*)"|([^ \t"]+))(?=[ \t]|\Z)', re.DOTALL)
 
 Fault = collections.namedtuple("Fault", "code text")
 Word = collections.namedtuple("Word", "start end value")
+
+
+def fault_of(found):
+    return Fault(found[3].decode(), found[2])
 
 
 class Trouble(Exception):
@@ -24,8 +29,13 @@ class Unreadable(Trouble):
     """Why a file can't be read."""
 
 
-def complain(name, trouble):
-    sys.stderr.buffer.write(os.fsencode(f"{name}: {trouble}\n"))
+def parser(about, **more):
+    """What parses the words of a command; what its module says of it is its help."""
+    return argparse.ArgumentParser(prog=called(), description=about, formatter_class=argparse.RawDescriptionHelpFormatter, **more)
+
+
+def complain(trouble):
+    sys.stderr.buffer.write(os.fsencode(f"{called()}: {trouble}\n"))
 
 
 def read(name):
@@ -40,9 +50,7 @@ def read(name):
 def lines_of(data):
     """The lines of a file as the program counts them: the last may lack its newline."""
     lines = data.split(b"\n")
-    if not lines[-1]:
-        lines.pop()
-    return lines
+    return lines if lines[-1] else lines[:-1]
 
 
 def words_of(line):
@@ -94,14 +102,15 @@ class Session:
         return range(first, len(self.lines) + 1)
 
     def run(self):
-        """Runs the lines, and returns what was written but for faults. The last line is refused: so it is known that all were read."""
-        last = self.ask(b"lines")
-        written = []
+        """Runs the lines, if there are any, and returns what was written but for faults. A last line is refused, which shows that all were read."""
+        if not self.lines:
+            return []
+        last, written = self.ask(b"lines"), []
         _, output = run(["session"], b"\n".join(self.lines) + b"\n")
         for line in lines_of(output):
             found = FAULT.fullmatch(line)
             if found:
-                self.faults[int(found.group(1))] = Fault(found.group(3).decode(), found.group(2))
+                self.faults[int(found[1])] = fault_of(found)
             else:
                 written.append(line)
         if not self.fault(last):
@@ -114,23 +123,27 @@ class Session:
         """The fault of a question, or None."""
         return next((self.faults[place] for place in places if place in self.faults), None)
 
+    def code(self, places):
+        fault = self.fault(places)
+        return fault and fault.code
 
-def finish(name, main, *arguments):
+
+def finish(main):
     """Ends with the status that main returns, or with 2 and a message where it meets trouble. Where nobody reads standard output any more,
     it ends without a message, by the signal that ends other commands there."""
     try:
         try:
-            status = main(*arguments)
+            status = main()
         finally:
             sys.stdout.flush()
     except Trouble as trouble:
-        complain(name, trouble)
+        complain(trouble)
         status = 2
     except BrokenPipeError:
         signal.signal(signal.SIGPIPE, signal.SIG_DFL)
         signal.raise_signal(signal.SIGPIPE)
     except OSError:
-        complain(name, "output failed")
+        complain("output failed")
         status = 2
         os.dup2(os.open(os.devnull, os.O_WRONLY), sys.stdout.fileno())
     sys.exit(status)

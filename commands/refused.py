@@ -29,7 +29,6 @@ Refused = collections.namedtuple("Refused", "number fault option word value more
 
 
 def is_passed_over(line):
-    """Whether a line is blank or a comment."""
     return line.strip(b" \t")[:1] in (b"", b"#")
 
 
@@ -69,9 +68,6 @@ class Reading:
     def question(self, number, text, places):
         self.questions.append(Question(number, text, ((places, None),), None))
 
-    def note(self, number, sentence):
-        self.notes.append((number, sentence))
-
     def ask_in_section(self, number, line):
         """Asks a line in a section of its own, which is tried on an empty table and not put in place."""
         self.question(number, line, self.session.restore([b"*filter", line, b"COMMIT"], b"-t"))
@@ -98,14 +94,14 @@ class Reading:
             self.ask_in_section(number, line)
         elif self.section is not None:
             sentence = b"*%s stands in the section %s, which has no COMMIT before it, so it is skipped too."
-            self.note(number, sentence % (name[:40], self.opening))
+            self.notes.append((number, sentence % (name[:40], self.opening)))
         elif len(words_of(line)) > 1:
             self.question(number, line, self.session.restore([line, b"COMMIT"], b"-t"))
         self.opening = b"*" + (name if len(name) <= 40 else name[:37] + b"...")
         if name not in TABLES:
             meant = difflib.get_close_matches(name.decode("latin-1").lower(), ["filter"])
             asked = b": did you mean *filter?" if meant else b"."
-            self.note(number, b"%s is no table of iptables, so its section is skipped%s" % (self.opening, asked))
+            self.notes.append((number, b"%s is no table of iptables, so its section is skipped%s" % (self.opening, asked)))
             name = b"filter" if meant else name
         self.section = name
         if name == b"filter":
@@ -117,9 +113,7 @@ class Reading:
         if words and words[0].value.startswith(b":"):
             self.read_chain(number, line, words[0])
             return
-        text = line
-        if words and COUNTERS.fullmatch(words[0].value):
-            text = line[words[0].end:]
+        text = line[words[0].end:] if words and COUNTERS.fullmatch(words[0].value) else line
         asked = b"iptables " + text
         if len(asked) > LINE_LIMIT or words and any(word.value in LISTING_COMMANDS for word in words):
             self.question(number, text, self.session.restore([b"*filter", line, b"COMMIT"], b"-n"))
@@ -133,8 +127,7 @@ class Reading:
     def read_chain(self, number, line, first):
         """A chain line. Its form is asked by itself, and its name beside a line of the same name; the chain is made whatever they say."""
         name, option = first.value[1:], line[first.start:first.end].replace(b":", b"", 1)
-        known = name in self.names
-        asks = []
+        known, asks = name in self.names, []
         if number >= self.first:
             asks.append((self.session.restore([b"*filter", line, b"COMMIT"], b"-t"), None))
         if known and number >= self.first:
@@ -150,13 +143,11 @@ class Reading:
         self.session.run()
         accepted, pairs = set(), []
         for question in self.questions:
-            fault = None
-            for places, codes in question.asks:
-                found = self.session.fault(places)
-                if found and not fault and (codes is None or found.code in codes and (found.code != "R3" or question.chain in accepted)):
-                    fault = found
-            if fault:
-                pairs.append((question, fault))
+            found = [(self.session.fault(places), codes) for places, codes in question.asks]
+            faults = [fault for fault, codes in found
+                      if fault and (codes is None or fault.code in codes and (fault.code != "R3" or question.chain in accepted))]
+            if faults:
+                pairs.append((question, faults[0]))
             elif question.chain:
                 accepted.add(question.chain)
         return pairs
@@ -166,13 +157,11 @@ class Search:
     """The refused word of a line, which is found by asking about beginnings of the line."""
 
     def __init__(self, question, fault):
-        self.number, self.fault = question.number, fault
-        self.text, self.codes = question.text, (fault.code,)
+        self.number, self.fault, self.text, self.codes = question.number, fault, question.text, (fault.code,)
         self.option = self.word = self.form = None
-        words = words_of(self.text)
-        if words is None or fault.code in ("R5", "R6"):
-            words = [Word(*found.span(), found.group()) for found in re.finditer(rb"[^ \t]+", self.text)]
-        self.words = words
+        self.words = words_of(self.text)
+        if self.words is None or fault.code in ("R5", "R6"):
+            self.words = [Word(*found.span(), found.group()) for found in re.finditer(rb"[^ \t]+", self.text)]
         self.begin()
 
     def begin(self):
@@ -184,11 +173,8 @@ class Search:
         elif self.text[:1] == b":" and code[0] == "T" or code in ("R1", "R3", "R4") or code == "R2" and len(words) == 1:
             self.word = words[0]
         elif code in PLACES:
-            place = PLACES[code] + (code in ("T2", "T3") and words[start].value in NAMING_COMMANDS[2:])
-            if start + place < len(words):
-                self.word = words[start + place]
-            elif words:
-                self.word = words[-1]
+            place = start + PLACES[code] + (code in ("T2", "T3") and words[start].value in NAMING_COMMANDS[2:])
+            self.word = words[min(place, len(words) - 1)] if words else None
         else:
             self.prepare(start)
 
@@ -245,19 +231,12 @@ class Search:
         return Refused(self.number, self.fault, self.option, shown, value)
 
 
-def code_of(session, places):
-    fault = session.fault(places)
-    return fault and fault.code
-
-
 def ask_beginnings(searches):
-    """Asks about all beginnings of each line."""
     session = Session()
     asked = [[search.ask(session, count + 1) for count in range(len(search.words))] for search in searches]
-    if asked:
-        session.run()
+    session.run()
     for search, places in zip(searches, asked):
-        search.settle([code_of(session, place) for place in places])
+        search.settle([session.code(place) for place in places])
 
 
 def ask_alike(pairs):
@@ -267,10 +246,9 @@ def ask_alike(pairs):
         if known.word:
             place, option = known.places
             asked.append((known, search, search.ask(session, place + 1), search.ask(session, option) if option else ()))
-    if asked:
-        session.run()
+    session.run()
     for known, search, upto, before in asked:
-        if code_of(session, upto) in search.codes and code_of(session, before) not in search.codes:
+        if session.code(upto) in search.codes and session.code(before) not in search.codes:
             search.take(*known.places)
 
 
@@ -281,10 +259,9 @@ def ask_masks(searches):
         if search.fault.code == "P3" and search.option == b"--tcp-flags" and search.places[0] == search.places[1] + 2:
             mask = search.words[search.places[1] + 1]
             asked.append((search, mask, search.ask_about(session, search.text[:mask.end] + b" " + search.text[mask.start:mask.end])))
-    if asked:
-        session.run()
+    session.run()
     for search, mask, places in asked:
-        if code_of(session, places) == "P3":
+        if session.code(places) == "P3":
             search.word = mask
 
 

@@ -1,18 +1,50 @@
-"""The parts of a rule, as iptables reads its words, for bin/fit."""
+"""The parts of a rule, as iptables reads its words, for bin/fit; and quotes within a word, written round the whole word."""
 
 import collections
+import re
 
 from commands import extensions
 from commands.program import words_of
-from commands.quoting import written_out
 from commands.refused import COUNTERS, TABLE_OPTIONS
 
+# Blanks, a word up to the quote that closes it, which ends the word, or a word without quotes.
+PIECE = re.compile(rb'(?P<blank>[ \t]+)|(?P<before>[^ \t"]*)"(?P<within>(?:[^"\\]|\\.)*)"|[^ \t"]+', re.DOTALL)
 # An option of a rule: its words are those from `first`, which may be `!`, to `last`; its name stands at `at`.
 Part = collections.namedtuple("Part", "option owner inverted first at last values")
 
 
 class Unclear(Exception):
     """Why the parts of a line can't be told."""
+
+
+def quoted(value):
+    if re.fullmatch(rb"[A-Za-z0-9_.,:/+!-]+", value):
+        return value
+    return b'"' + re.sub(rb'(["\\])', rb"\\\1", value) + b'"'
+
+
+def whole_word(before, within):
+    """A word with a quote in it as the program takes it: of an option with `=` of a match or target the option and its value."""
+    name, value = before[:-1], re.sub(rb"(?s)\\(.)", rb"\1", within)
+    if before.startswith(b"--") and before.endswith(b"=") and not extensions.begun(name, [extensions.RULE, extensions.COMMAND]):
+        return name + b" " + quoted(value)
+    return quoted(before + value)
+
+
+def written_out(line):
+    """The line with quotes round whole words, and the words that were changed, as they stood and as they are; None where a quote isn't closed."""
+    words, changes, at = [], [], 0
+    while at < len(line):
+        found = PIECE.match(line, at)
+        if not found:
+            return None
+        if found["before"]:
+            changes.append((found.group(), whole_word(found["before"], found["within"])))
+            words.append(changes[-1][1])
+        elif not found["blank"]:
+            words.append(found.group())
+        at = found.end()
+    return b" ".join(words), changes
 
 
 class Owner:
@@ -69,7 +101,6 @@ class Rule:
         self.head = at + 2 + self.numbered
 
     def read_part(self, first):
-        """One option with its values."""
         at = first + (self.value(first) == b"!")
         owner, option = self.option_at(at)
         extension = owner.extension if isinstance(owner, Owner) else owner
@@ -115,15 +146,14 @@ class Rule:
     def is_known_at(self, place):
         """Whether at a place stands the full name of an option of the rule, of what it has started or of what `-p` starts, or `!` before one."""
         at = min(place + (self.value(place) == b"!"), len(self.words) - 1)
-        owners = [*self.matches, *([self.target] if self.target else [])]
+        begun = [owner.extension for owner in [*self.matches, self.target] if owner]
         implied = extensions.MATCHES.get(extensions.OF_PROTOCOL.get(self.protocol))
-        known = [extensions.RULE, extensions.COMMAND, *(owner.extension for owner in owners), *([implied] if implied else [])]
-        return extensions.exact(self.value(at), known) is not None
+        return extensions.exact(self.value(at), filter(None, [extensions.RULE, extensions.COMMAND, *begun, implied])) is not None
 
     def option_at(self, at):
         """The owner of the option that stands at a place, and the option. A value that is written onto it by `=` becomes a word."""
         word = self.value(at)
-        started = [*reversed(self.matches), *([self.target] if self.target else [])]
+        started = [owner for owner in [*reversed(self.matches), self.target] if owner]
         found = self.resolve(word, started)
         if not found and word.startswith(b"--") and b"=" in word and self.line[self.words[at].start:self.words[at].end] == word:
             found = self.resolve(word[:word.index(b"=")], started)
@@ -152,14 +182,12 @@ class Rule:
         return found and (owners.get(found[0], found[0]), found[1])
 
     def protocol_for(self, part):
-        """The name of the protocol by which names of ports are looked up; None where there is none yet."""
+        """The name of the protocol by which names of ports are looked up; None where there is none yet: for multiport that of `-p` before it."""
         name = part.owner.extension.name if isinstance(part.owner, Owner) else b""
-        return extensions.PROTOCOLS.get(self.protocol_before(part.first)) if name == b"multiport" else name
-
-    def protocol_before(self, first):
-        """The number of the protocol that stands before a place."""
-        found = [part.values[0].value for part in self.parts if part.option.names[0] == b"-p" and not part.inverted and part.first < first]
-        return self.names.protocol(found[-1]) if found else None
+        if name != b"multiport":
+            return name
+        found = [each.values[0].value for each in self.parts if each.option.names[0] == b"-p" and not each.inverted and each.first < part.first]
+        return extensions.PROTOCOLS.get(self.names.protocol(found[-1])) if found else None
 
     def text(self, first, last):
         return self.line[self.words[first].start:self.words[last].end]

@@ -70,7 +70,6 @@ class Names:
                 yield words[0], words[1], words[2:]
 
     def protocol(self, text):
-        """The number of a protocol, or None."""
         value = number(text, 255)
         return self.protocols.get(text.lower()) if value is None else value
 
@@ -86,6 +85,11 @@ class Names:
         return value
 
 
+def joined(parts, sign, most=None):
+    """Parts with a sign between; None where one is None, or there are more than so many."""
+    return None if None in parts or len(parts) > (most or len(parts)) else sign.join(parts)
+
+
 def port_range(names, text, protocol):
     """A port, or two with `:` between of which the first isn't above the second; an end that is missing stays so."""
     ends = [names.port(end, protocol) if end else b"" for end in text.split(b":")]
@@ -96,8 +100,7 @@ def port_range(names, text, protocol):
 
 def ports(names, text, protocol):
     """A list for multiport, which asks for `-p` before it."""
-    items = [port_range(names, item, protocol) for item in text.split(b",")] if protocol else [None]
-    return None if None in items else b",".join(items)
+    return joined([port_range(names, item, protocol) for item in text.split(b",")] if protocol else [None], b",")
 
 
 def address(text):
@@ -107,19 +110,10 @@ def address(text):
 
 
 def network(text):
-    """An address with or without a mask."""
     host, slash, mask = text.partition(b"/")
-    if slash and b"." in mask:
-        mask = address(mask) if mask.count(b".") == 3 else None
-    elif slash:
-        mask = decimal(number(mask, 32))
-    host = address(host)
-    return None if None in (host, mask) else host + slash + mask
-
-
-def address_range(text):
-    ends = [address(end) for end in text.split(b"-")]
-    return None if None in ends or len(ends) > 2 else b"-".join(ends)
+    if slash:
+        mask = decimal(number(mask, 32)) if b"." not in mask else address(mask) if mask.count(b".") == 3 else None
+    return joined([address(host), mask], slash)
 
 
 def icmp_type(text):
@@ -151,15 +145,6 @@ def flags(text):
     return (b",".join(items) or b"NONE") if all(item.upper() in FLAGS for item in items) else None
 
 
-def reject_type(text):
-    begun = [pair[0] for pair in REJECT_TYPES if any(name.startswith(text.lower()) for name in pair)]
-    return begun[0] if begun else None
-
-
-def level(text):
-    return b"0" if text == b"panic" else decimal(number(text, 7))
-
-
 # Of each kind of value that may be spelled otherwise: what it is called; a rule that has one alone, by which the program is asked
 # whether it takes it as it stands; and its spelling by the names, the text and the protocol of the match or, for multiport, of the
 # rule, which is None where there is none.
@@ -168,14 +153,15 @@ KINDS = {
     "protocol": ("protocol", b"-p %s", lambda names, text, protocol: decimal(names.protocol(text))),
     "port": ("port", b"-p tcp --dport %s", port_range),
     "ports": ("port", b"-p tcp -m multiport --dports %s", ports),
-    "range": ("address", b"-m iprange --src-range %s", lambda names, text, protocol: address_range(text)),
+    "range": ("address", b"-m iprange --src-range %s", lambda names, text, protocol: joined([address(end) for end in text.split(b"-")], b"-", 2)),
     "type": ("ICMP type", b"-p icmp --icmp-type %s", lambda names, text, protocol: icmp_type(text)),
     "states": ("state", b"-m conntrack --ctstate %s", lambda names, text, protocol: states(text)),
     "state": ("state", b"-m state --state %s", lambda names, text, protocol: states(text, STATES[:5])),
     "flags": ("flag", b"-p tcp --tcp-flags %s NONE", lambda names, text, protocol: flags(text)),
     "number": ("number", b"-m ttl --ttl-eq %s", lambda names, text, protocol: decimal(number(text, 255))),
-    "reject": ("type", b"-p tcp -j REJECT --reject-with %s", lambda names, text, protocol: reject_type(text)),
-    "level": ("level", b"-j LOG --log-level %s", lambda names, text, protocol: level(text)),
+    "reject": ("type", b"-p tcp -j REJECT --reject-with %s", lambda names, text, protocol: next(
+        (pair[0] for pair in REJECT_TYPES if any(name.startswith(text.lower()) for name in pair)), None)),
+    "level": ("level", b"-j LOG --log-level %s", lambda names, text, protocol: b"0" if text == b"panic" else decimal(number(text, 7))),
     "prefix": ("text", b"-j LOG --log-prefix %s", lambda names, text, protocol: text[:29]),
     "comment": ("text", b"-m comment --comment %s", lambda names, text, protocol: text[:255] if len(text) < 1024 else None),
 }
@@ -185,6 +171,5 @@ def refused_values(pairs):
     """Those of the pairs of a kind and a value, as it stands in a line, which the program doesn't take."""
     session = Session()
     asked = [(pair, session.ask(b"iptables -A FORWARD " + KINDS[pair[0]][1] % pair[1])) for pair in sorted(pairs)]
-    if asked:
-        session.run()
+    session.run()
     return {pair for pair, places in asked if session.fault(places)}

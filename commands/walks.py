@@ -4,10 +4,11 @@ import collections
 import os
 import re
 
+from commands import json_documents
 from commands.at_fault import explained
-from commands.families import for_ipv4
+from commands.kinds import for_ipv4
 from commands.places import command
-from commands.program import Session, lines_of, read, words_of
+from commands.program import Session, complain, lines_of, read, words_of
 
 REPLY = re.compile(rb"verdict (\S+)(?: (\S+))??(?: by (rule|policy))?")
 STEP = re.compile(rb"(\S+) ([0-9]+)")
@@ -27,9 +28,20 @@ class Unfit(Exception):
     """Why an input can't be used, as complaints."""
 
 
-def complaints_of(trouble):
-    """What is said of an input that can't be used, or of other trouble, and the status."""
-    return (trouble.args[0], 1) if isinstance(trouble, Unfit) else ([Complaint(str(trouble))], 2)
+def bail_out(trouble, is_json):
+    """Says why an input can't be used, or of other trouble, also as JSON where that is asked for. Returns what is said, and the status."""
+    complaints, status = (trouble.args[0], 1) if isinstance(trouble, Unfit) else ([Complaint(str(trouble))], 2)
+    for each in complaints:
+        complain(each.text)
+    if is_json:
+        json_documents.write(json_documents.error_objects(complaints))
+    return [each.text for each in complaints], status
+
+
+def packet_lines(lines):
+    """The lines of an input but blank ones and comments, without blanks around them and with their numbers."""
+    stripped = ((number, line.strip(b" \t\r")) for number, line in enumerate(lines, 1))
+    return [(number, line) for number, line in stripped if line[:1] not in (b"", b"#")]
 
 
 def values(line):
@@ -62,10 +74,8 @@ def has_filter(lines):
 
 
 def text_of(verdict):
-    words = [verdict.name] + ([verdict.kind] if verdict.kind else [])
-    if verdict.by:
-        words += [b"by", verdict.by if isinstance(verdict.by, bytes) else b"%s %d" % verdict.by]
-    return b" ".join(words)
+    by = verdict.by and (b"by " + verdict.by if isinstance(verdict.by, bytes) else b"by %s %d" % verdict.by)
+    return b" ".join(filter(None, [verdict.name, verdict.kind, by]))
 
 
 def read_walks(lines, packets):
@@ -82,16 +92,15 @@ def read_walks(lines, packets):
 
 
 class Answers:
-    """What the program says of a ruleset: its chains, their rules, and the walk of each packet line.
+    """What the program says of a ruleset: its chains, their rules, and the walk of each of the packet lines, which have their numbers. What is said
+    of one that is refused begins with `place` and its number; `file` is where it stands, if it is a file."""
 
-    `blamed` makes a complaint of the place of a packet line, from 0, and why it is refused."""
-
-    def __init__(self, name, packets, blamed):
+    def __init__(self, name, packets, place, file=None):
         lines = for_ipv4(lines_of(read(name)))
         session = Session()
         restore = session.restore(lines)
         session.ask(b"iptables -S")
-        asked = [session.ask(packet) for packet in packets]
+        asked = [(number, packet, session.ask(packet)) for number, packet in packets]
         written = session.run()
         if session.fault(restore):
             number = min(next(place for place in restore if place in session.faults) - 1, len(lines))
@@ -100,11 +109,11 @@ class Answers:
         if not has_filter(lines):
             raise Unfit([Complaint(f"{name} has no section *filter that iptsim reads: {command('check')} says why", name)])
         self.read_listing(written)
-        faults = [(place, session.fault(places)) for place, places in enumerate(asked)]
-        complaints = [blamed(place, os.fsdecode(explained(packets[place], fault.text, self.chains))) for place, fault in faults if fault]
-        if complaints:
-            raise Unfit(complaints)
-        self.walks = list(read_walks(written, packets))
+        refused = [(number, os.fsdecode(explained(packet, session.fault(places).text, self.chains)))
+                   for number, packet, places in asked if session.fault(places)]
+        if refused:
+            raise Unfit([Complaint(f"{place}{number}: {why}", file, number) for number, why in refused])
+        self.walks = list(read_walks(written, [packet for _, packet in packets]))
 
     def read_listing(self, lines):
         self.chains, self.rules = [], {}
@@ -143,7 +152,6 @@ class Answers:
         return ((chain, place) for place in range(number, len(self.rules.get(chain, [])) + 1))
 
     def unmatched(self):
-        """The rules that no packet matched."""
         matched = {step for walk in self.walks for step in walk.steps}
         steps = ((chain, number) for chain, rules in self.rules.items() for number in range(1, len(rules) + 1))
         return [step for step in steps if step not in matched]

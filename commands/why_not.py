@@ -24,7 +24,6 @@ Failure = collections.namedtuple("Failure", "listed condition has")
 
 @functools.lru_cache(maxsize=None)
 def read_rule(text):
-    """A rule as `-S` lists it."""
     return rule_of(values(text)[2:])
 
 
@@ -49,7 +48,6 @@ def pieces(rule, numbers):
 
 
 def given(line):
-    """What a packet line gives, by its keys."""
     return {key.decode(): value for key, _, value in (word.partition(b"=") for word in values(line)[2:])}
 
 

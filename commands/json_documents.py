@@ -1,4 +1,4 @@
-"""What bin/expect and bin/explain write as JSON, and bin/check by json_report: documents of which docs/schemas/ has the schemas.
+"""What bin/check, bin/expect and bin/explain write as JSON: documents of which docs/schemas/ has the schemas.
 
 JSON has texts alone, so a byte that is no part of UTF-8 is written as \\xNN.
 """
@@ -6,6 +6,8 @@ JSON has texts alone, so a byte that is no part of UTF-8 is written as \\xNN.
 import json
 import os
 import sys
+
+from commands.findings import visible
 
 
 def text(given):
@@ -32,7 +34,6 @@ def verdict_object(verdict):
 
 
 def asked_object(answers, step, failure):
-    """A rule that a packet came to, and why it doesn't match."""
     found = {**rule_object(step, answers.rule(step)), "matched": failure is None}
     if failure:
         has = {field: text(value) for field, value in failure.has.items()}
@@ -49,11 +50,18 @@ def walk_object(answers, walk, asked):
 
 
 def error_objects(complaints):
-    """The document of inputs that can't be used."""
     found = [{"message": text(each.text), "file": each.file and text(each.file), "line": each.line} for each in complaints]
     return {"errors": [{key: value for key, value in each.items() if value is not None} for each in found]}
 
 
-def write_document(document):
-    """Writes a document to standard output."""
+def checked_file(name, findings, advice, passed, error):
+    """One file: its faults, what to do about the commonest, the lines that are passed over, or why it can't be read. What there is nothing to say of is
+    null."""
+    faults = [{"line": each.line or None, "code": each.code or None, "text": text(each.text if each.code else visible(each.text)),
+               "word": text(each.word) or None, "more": text(each.more) or None, "meant": text(each.meant) or None} for each in findings]
+    return {"file": text(name), "loads": not findings and error is None, "error": error, "faults": faults,
+            "advice": [{"words": [text(word) for word in words], "text": text(sentence)} for words, sentence in advice], "passed_over": list(passed)}
+
+
+def write(document):
     sys.stdout.buffer.write(json.dumps(document, indent=2).encode() + b"\n")
