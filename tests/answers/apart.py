@@ -9,6 +9,8 @@
 - Each allocation of a run refused, one in each run: the run ends with status 4, or as without.
 """
 
+import collections
+
 import pytest
 
 from commands import extensions
@@ -31,7 +33,6 @@ TOGETHER, FURTHER, MOST = 500, 100, 20000
 
 
 def quoted(word):
-    """A word as the program writes it."""
     if word and not any(byte in b' \t"' for byte in word):
         return word
     return b'"' + word.replace(b"\\", b"\\\\").replace(b'"', b'\\"') + b'"'
@@ -54,10 +55,8 @@ class Conditions:
     def number(self, condition, chain, rule, counts):
         text = b" ".join(map(quoted, [condition.name, *condition.words]))
         placed = condition.lasting == "place" or condition.lasting == "set" and condition.name in self.sets
-        key = text
-        if placed:
-            key = (text, chain, counts.setdefault(text, 0))
-            counts[text] += 1
+        key = (text, chain, counts[text]) if placed else text
+        counts[text] += placed
         if key not in self.numbers:
             self.numbers[key] = len(self.numbers)
             self.lines.append(b"# %d %s: %s" % (self.numbers[key], condition.name, text) + (b" at %s %d" % (chain, rule) if placed else b""))
@@ -68,7 +67,7 @@ def printed(lines, conditions):
     """What the program is to print for a dump of lines, each with its chain: their own lines, and what they need."""
     yield from [b"*filter", *(rule_line(chain, line.own) for chain, line in lines), b"COMMIT"]
     for chain in dict.fromkeys(chain for chain, _ in lines):
-        counts = {}
+        counts = collections.Counter()
         for rule, line in enumerate((line for each, line in lines if each == chain), 1):
             needs = [(b"!" if each.inverted else b"") + b"%d" % conditions.number(each, chain, rule, counts) for each in line.conditions]
             if needs:
@@ -112,7 +111,6 @@ def each_option(draw):
 
 
 def drawn(draw):
-    """A line at random."""
     writer = Writer(draw)
     for _ in range(draw.choice((1, 2, 3, 5, 8, 13))):
         draw.choice((writer.rule_option, writer.match, writer.option, writer.option, writer.option, writer.option))()
@@ -132,7 +130,6 @@ def edited(draw, lines):
 
 
 def test_refusals(dump_cases, proved, folder):
-    """Refuses each allocation of a run."""
     data, refused = dump(row[0] for row in LINES), preloaded(folder)
     whole, changed, number, last = run(dump_cases, data), 0, 1, 0
     while number < MOST and number - last < FURTHER:

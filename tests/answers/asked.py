@@ -27,18 +27,18 @@ No answer may be unclear.
 
 import collections
 import contextlib
-import os
+import pathlib
 import re
 import subprocess
 
 import pytest
 
+from tests.answers import Wrong, need
 from tests.drawn.lots import Lots
-from tests.drawn.rulesets.changes import ways
 from tests.drawn.rulesets.edits import edited
 from tests.drawn.rulesets.large import Large
 from tests.drawn.rulesets.model import comes_to, dead_of, matched, packets_of, reply, verdict_in, walks
-from tests.drawn.rulesets.ruleset import target_of, verdict_of
+from tests.drawn.rulesets.ruleset import target_of, verdict_of, ways
 from tests.drawn.rulesets.small import FLAGS, OTHERS, PORTS, SOURCES, TYPES, Small
 
 # How many small rulesets are drawn, and how many large ones, of each of which so many edited ones are drawn.
@@ -48,10 +48,6 @@ FIELDS = ("proto", "frag", "sport", "dport", "flags", "icmp")
 WALKS = r"(packet .*)\nold:\n((?:.*\n)*)new:\n((?:.*\n)*)"
 DUE = ("dead", "taken by", "comes from", "redundant", "shadowed", "same", "differs", "changed", "changed and dead", "missed", "reached", "carried by none",
        "dead of large", "same of large", "differs of large", "differs by policy", "without dead")
-
-
-class Wrong(Exception):
-    """An answer that isn't the due one."""
 
 
 def asked(audit, *words, status=None, **streams):
@@ -74,15 +70,8 @@ def expect_takers(name, ruleset, reason, deciders, said):
     does = {decider: ruleset.policy if decider == "the policy" else verdict_of(ruleset.named()[decider]) for decider in deciders}
     listed, more = listed_in(reason.removeprefix("taken by "))
     known = {f"{decider} ({does[decider]})" for decider in deciders}
-    if not listed <= known or len(known) != len(listed) + more:
-        raise Wrong(f"{name} is taken by {sorted(known)}:\n{said}")
+    need(listed <= known and len(known) == len(listed) + more, f"{name} is taken by {sorted(known)}:\n{said}")
     return set(does.values()) == {verdict_of(ruleset.named()[name])}
-
-
-def at_stake(name, ruleset, packets, there):
-    """Of each packet whether those are told who take it from a dead rule: it matches it, and comes to its chain; or none that it matches does."""
-    near = [here and comes for here, comes in zip(there, comes_to(ruleset, name.split()[0], packets))]
-    return near if any(near) else there
 
 
 def expect_ways(name, ruleset, reason, packets, there, said):
@@ -91,21 +80,18 @@ def expect_ways(name, ruleset, reason, packets, there, said):
     through = [way for way in listed if any(here and fits for here, fits in zip(there, matched(ruleset, ruleset.named()[way], packets)))]
     leading = ruleset.leading_to(name.split()[0], without=listed)
     into = {way for way in listed if way.split()[0] not in leading and target_of(ruleset.named()[way]) in leading}
-    if through or not more and ("INPUT" in leading or into != listed):
-        raise Wrong(f"other rules lead to {name}, or {through} let packets through:\n{said}")
+    need(not through and (more or "INPUT" not in leading and into == listed), f"other rules lead to {name}, or {through} let packets through:\n{said}")
 
 
 def expect_none(name, ruleset, reason, there, said):
     """Compares whether no packet fits, or no rule leads to the chain of a dead rule, where that is told or nothing is."""
     is_led = "INPUT" in ruleset.leading_to(name.split()[0])
+    right = is_led and not reason
     if reason.startswith(("no packet fits ", "no value of ")):
         right = not any(there)
     elif reason.startswith("no rule leads to "):
         right = not is_led
-    else:
-        right = is_led and not reason
-    if not right:
-        raise Wrong(f"{name} is dead for another reason:\n{said}")
+    need(right, f"{name} is dead for another reason:\n{said}")
 
 
 def expect_dead(audit, file, ruleset, packets, found):
@@ -113,44 +99,36 @@ def expect_dead(audit, file, ruleset, packets, found):
     said = asked(audit, "dead", file)
     due = set(dead_of(ruleset, found))
     told = dict(re.findall(r"(?m)^dead (\S+ \d+) .*(?:\n  (.*))?", said))
-    if set(told) != due:
-        raise Wrong(f"not told is that {sorted(due - set(told))} are dead, and not dead are {sorted(set(told) - due)}:\n{said}")
-    takers, coming, standings = 0, 0, {True: 0, False: 0}
+    need(set(told) == due, f"not told is that {sorted(due - set(told))} are dead, and not dead are {sorted(set(told) - due)}:\n{said}")
+    counts = collections.Counter(dead=len(told))
     for name, reason in told.items():
         there = matched(ruleset, ruleset.named()[name], packets)
         if reason.startswith("taken by "):
-            stake = at_stake(name, ruleset, packets, there)
-            does_same = expect_takers(name, ruleset, reason, {walk.by for here, walk in zip(stake, found) if here}, said)
-            takers += 1
-            if verdict_of(ruleset.named()[name]):
-                standings[does_same] += 1
+            # Told is who takes those packets that it matches and that come to its chain; or of all that it matches, if none does.
+            near = [here and comes for here, comes in zip(there, comes_to(ruleset, name.split()[0], packets))]
+            deciders = {walk.by for here, walk in zip(near if any(near) else there, found) if here}
+            does_same = expect_takers(name, ruleset, reason, deciders, said)
+            counts["taken by"] += 1
+            counts["redundant" if does_same else "shadowed"] += bool(verdict_of(ruleset.named()[name]))
         elif reason.startswith("no packet that comes"):
             expect_ways(name, ruleset, reason, packets, there, said)
-            coming += 1
+            counts["comes from"] += 1
         else:
             expect_none(name, ruleset, reason, there, said)
-    if told and not said.endswith(f"\n{standings[True]} redundant, {standings[False]} shadowed\n"):
-        raise Wrong(f"{standings[True]} are redundant, {standings[False]} shadowed:\n{said}")
-    return due, {"dead": len(told), "taken by": takers, "comes from": coming, "redundant": standings[True], "shadowed": standings[False]}
+    if told and not said.endswith("\n{redundant} redundant, {shadowed} shadowed\n".format_map(counts)):
+        raise Wrong("{redundant} are redundant, {shadowed} shadowed:\n".format_map(counts) + said)
+    return due, counts
 
 
 def hooks_of(said):
     """What `compare` says of each hook, and where packets differ a packet and both walks; the line that counts the changed rules comes last."""
     hooks = re.sub(r"\n\d+ changed rules, \d+ dead, 0 unclear\n\Z", "\n", said)
-    if hooks == said:
-        raise Wrong(f"no count of changed rules:\n{said}")
+    need(hooks != said, f"no count of changed rules:\n{said}")
     start, *parts = re.split(r"(?m)^(INPUT|FORWARD|OUTPUT) (same|differs|unclear)\n", hooks)
     shown = {hook: (answer, re.fullmatch(WALKS if answer == "differs" else "", text)) for hook, answer, text in zip(parts[0::3], parts[1::3], parts[2::3])}
     if start or list(shown) != ["INPUT", "FORWARD", "OUTPUT"] or not all(match for _, match in shown.values()):
         raise Wrong(f"this is no answer of compare:\n{said}")
     return shown
-
-
-def expect_itself(audit, file):
-    """Compares a ruleset with itself, which takes no step."""
-    said = asked(audit, "compare", "--steps", "0", file, file)
-    if any(answer != "same" for answer, _ in hooks_of(said).values()) or "\n0 changed rules, 0 dead, " not in said:
-        raise Wrong(f"the ruleset beside itself:\n{said}")
 
 
 def expect_changes(said, old, new, found, other):
@@ -161,8 +139,7 @@ def expect_changes(said, old, new, found, other):
     twice = any(len(set(ruleset.rules)) < len(ruleset.rules) for ruleset in (old, new))
     dead_there = [set(dead_of(ruleset, walked)) for ruleset, walked in ((old, found), (new, other))]
     due = {len(set(went) & dead_there[0]) + len(set(came) & dead_there[1]) for went, came in ways(old, new, count)}
-    if count < least or (count > least and not twice) or dead not in due:
-        raise Wrong(f"{least} rules changed, and of {count} are dead {sorted(due)}:\n{said}")
+    need(count >= least and (count == least or twice) and dead in due, f"{least} rules changed, and of {count} are dead {sorted(due)}:\n{said}")
     return {"changed": count, "changed and dead": dead}
 
 
@@ -176,8 +153,7 @@ def expect_alike(audit, files, rulesets, found, other):
     if not alike:
         packet, *walked = hooks["INPUT"][1].groups()
         due = [reply(ruleset, packet) for ruleset in rulesets]
-        if walked != due or verdict_in(due[0]) == verdict_in(due[1]):
-            raise Wrong(f"the walks of the packet are these:\n{due[0]}{due[1]}not these:\n{said}")
+        need(walked == due and verdict_in(due[0]) != verdict_in(due[1]), f"the walks of the packet are these:\n{due[0]}{due[1]}not these:\n{said}")
     return said, {"same": alike, "differs": not alike}
 
 
@@ -188,8 +164,7 @@ def expect_tests(audit, file, ruleset, dead):
     if {name for name, _ in live} != set(ruleset.named()) - dead or set(re.findall(r"(?m)^# dead (\S+ \d+) ", said)) != dead:
         raise Wrong(f"dead are {sorted(dead)}:\n{said}")
     for (name, line), walk in zip(live, walks(ruleset, packets_of(line for _, line in live))):
-        if name not in walk.trail:
-            raise Wrong(f"{name} isn't on the walk of {line}:\n{said}")
+        need(name in walk.trail, f"{name} isn't on the walk of {line}:\n{said}")
 
 
 def expect_cover(audit, file, drawn, ruleset, found, dead):
@@ -197,23 +172,18 @@ def expect_cover(audit, file, drawn, ruleset, found, dead):
     some = [(line, walk.trail) for (line, _), walk in zip(drawn.packets(), found) if drawn.draw.random() < 0.02]
     said = asked(audit, "cover", file, input="".join(f"{line}\n" for line, _ in some).encode())
     met = set().union(*(trail for _, trail in some))
-    if set(re.findall(r"(?m)^missed (\S+ \d+) ", said)) != set(ruleset.named()) - dead - met:
-        raise Wrong(f"met are {sorted(met)}:\n{said}")
+    need(set(re.findall(r"(?m)^missed (\S+ \d+) ", said)) == set(ruleset.named()) - dead - met, f"met are {sorted(met)}:\n{said}")
     return {"missed": len(set(ruleset.named()) - dead - met)}
 
 
 def number_of(field, text):
-    """The number that a text stands for."""
     if field == "flags":
         return sum(1 << ("FIN", "SYN", "RST", "PSH", "ACK", "URG").index(name) for name in text.split(",") if name != "NONE")
-    if field == "icmp":
-        kind, _, code = text.partition("/")
-        return int(kind) * 256 + int(code or 0)
-    return int(text)
+    kind, _, code = text.partition("/")
+    return int(kind) * 256 + int(code or 0) if field == "icmp" else int(text)
 
 
 def has(field, text, number):
-    """Whether the numbers that `reach` prints have one."""
     if text == "all":
         return True
     for part in text.removeprefix("not ").split(", "):
@@ -227,9 +197,9 @@ def has(field, text, number):
 def given_words(drawn):
     """Some fields of packets, with the word for each: a value for each field that is given."""
     draw = drawn.draw
+    ports = {port: f"{port}" if port < OTHERS else "5:65535" for port in PORTS}
     words = {"src": SOURCES, "in": {name: name for name in drawn.interfaces.names}, "proto": {1: "icmp", 6: "tcp", 17: "udp", 33: "33", 47: "47"},
-             "frag": {0: "0", 1: "1"}, "sport": {port: f"{port}" if port < OTHERS else "5:65535" for port in PORTS},
-             "dport": {port: f"{port}" if port < OTHERS else "5:65535" for port in PORTS},
+             "frag": {0: "0", 1: "1"}, "sport": ports, "dport": ports,
              "flags": {number: name for name, number in FLAGS.items()}, "icmp": {number: name for name, number in TYPES.items()}}
     likely = {"src": 0.5, "in": 0.5, "proto": 0.5, "frag": 0.3, "sport": 0.2, "dport": 0.2, "flags": 0.1, "icmp": 0.1}
     given = {}
@@ -238,11 +208,6 @@ def given_words(drawn):
             value = draw.choice(list(values))
             given[field] = (value, f"{field}={values[value]}")
     return given
-
-
-def standing_for(field, number):
-    """The number that is looked for in what `reach` prints: port 5 stands for all from there on, and is asked of by another."""
-    return 40000 if field in ("sport", "dport") and number == OTHERS else number
 
 
 def expect_reached(audit, file, drawn, found):
@@ -262,9 +227,10 @@ def expect_reached(audit, file, drawn, found):
     asked_for = set().union(*due.values())
     told = {}
     for verdict, decider, text in re.findall(r"(?m)^(.*) by (policy|\S+ \d+): (.*)$", said):
-        told[verdict, decider.replace("policy", "the policy")] = {number for number in asked_for if has(by, text, standing_for(by, number))}
-    if told != due:
-        raise Wrong(f"{' '.join(words[2:])}: {due} is due\n{said}")
+        # Port 5 stands for all from there on, and is asked of by another.
+        numbers = {number: 40000 if by in ("sport", "dport") and number == OTHERS else number for number in asked_for}
+        told[verdict, decider.replace("policy", "the policy")] = {number for number, shown in numbers.items() if has(by, text, shown)}
+    need(told == due, f"{' '.join(words[2:])}: {due} is due\n{said}")
     return {"reached": 1}
 
 
@@ -278,11 +244,9 @@ def telling(ruleset, changed):
 
 
 def written(folder, name, ruleset):
-    """The file of a ruleset."""
-    file = os.path.join(folder, name)
-    with open(file, "w", encoding="ascii") as output:
-        output.write(ruleset.text())
-    return file
+    file = pathlib.Path(folder, name)
+    file.write_text(ruleset.text(), encoding="ascii")
+    return str(file)
 
 
 def expect_small(audit, draw, folder):
@@ -296,7 +260,10 @@ def expect_small(audit, draw, folder):
         found = walks(ruleset, packets)
         dead, told = expect_dead(audit, files[0], ruleset, packets, found)
         counts = collections.Counter(told)
-        expect_itself(audit, files[0])
+        # Beside itself a ruleset is the same, without a step.
+        said = asked(audit, "compare", "--steps", "0", files[0], files[0])
+        if any(answer != "same" for answer, _ in hooks_of(said).values()) or "\n0 changed rules, 0 dead, " not in said:
+            raise Wrong(f"the ruleset beside itself:\n{said}")
         other = walks(changed, packets)
         said, told = expect_alike(audit, files, (ruleset, changed), found, other)
         counts.update(told)
@@ -335,15 +302,19 @@ def expect_large(audit, draw, folder):
     return counts
 
 
+# What is expected of each kind, and how many are drawn.
+KINDS = {"small": (expect_small, SMALL), "large": (expect_large, LARGE)}
+
+
 def drawn(kind, number, folder, iptaudit, seed, times):
     """Asks about each ruleset of a kind and a number; returns how often each answer came."""
-    counts, expect, rulesets = collections.Counter(), *{"small": (expect_small, SMALL), "large": (expect_large, LARGE)}[kind]
+    counts, expect, rulesets = collections.Counter(), *KINDS[kind]
     for at in range(number, 1 + rulesets * times, rulesets):
         counts.update(expect(iptaudit.path, Lots(f"{seed} {kind} {at}"), folder))
     return counts
 
 
-@pytest.mark.parametrize("kind, number", [*(("small", number) for number in range(1, 1 + SMALL)), *(("large", number) for number in range(1, 1 + LARGE))])
+@pytest.mark.parametrize("kind, number", [(kind, number) for kind, (_, rulesets) in KINDS.items() for number in range(1, 1 + rulesets)])
 def test_asked(kind, number, folder, iptaudit, seed, times, sum_up):
     try:
         counts = sum_up("asked", SMALL + LARGE, drawn(kind, number, folder, iptaudit, seed, times))

@@ -8,17 +8,22 @@ Of an input whose answers differ a test shows the few lines that still do, as hy
 """
 
 import collections
+import itertools
 import sys
 
 import pytest
 
 from tests import ROOT
-from tests.drawn.sessions.inputs import drawn_input
-from tests.drawn.sessions.limits import LIMITS, limit_input
-from tests.drawn.smallest import smallest
+from tests.drawn.sessions.inputs import LIMITS, drawn_input, limit_input
 from tests.model.faults import TEXTS
 from tests.model.session import answer as due
 from tests.shared.rows import Command
+
+try:
+    import hypothesis
+    from hypothesis import strategies
+except ImportError:
+    hypothesis = None
 
 # With those that come to the limits, so many inputs of the gate's seed have some more than so many lines.
 INPUTS, LINES, PARTS, LEAST = 1088, 100_000, 16, 20
@@ -27,6 +32,25 @@ STEPS = ("jump", "goto", "RETURN", "end of a chain", "LOG", "no target", "RETURN
 # Each has to come LEAST times in the run of the gate.
 FILES = ("a file", "a file of two sections", "a fault in a file")
 DUE = (*TEXTS, *VERDICTS, *STEPS, *FILES)
+# How many cases are drawn to find one that fails, and of how many pieces one has. With more pieces hypothesis is slow.
+TRIED, PIECES = 500, 200
+
+
+def smallest(parts, fails):
+    """As few of the parts of a case that fails as still do, as far as hypothesis finds them."""
+    if not hypothesis:
+        return parts
+    size = len(parts) // PIECES + 1
+    pieces = [parts[at : at + size] for at in range(0, len(parts), size)]
+    # Some of the pieces in their order are drawn, mostly nearly all; what is simpler has fewer.
+    numbers = strategies.lists(strategies.integers(0, 255), min_size=len(pieces), max_size=len(pieces))
+    some = numbers.map(lambda drawn: list(itertools.chain.from_iterable(itertools.compress(pieces, drawn))))
+    settings = hypothesis.settings(max_examples=TRIED, database=None, deadline=None, derandomize=True)
+    try:
+        fewer = hypothesis.find(some, fails, settings=settings)
+    except hypothesis.errors.NoSuchExample:
+        return parts
+    return smallest(fewer, fails) if size > 1 and len(fewer) < len(parts) else fewer
 
 
 def answer(program, words, data, file):
@@ -34,10 +58,6 @@ def answer(program, words, data, file):
     words = words if file is None else [*words, "--load", "file"]
     ended = program.run(words, {} if file is None else {"file": file}, data)
     return ended.stdout, ended.stderr, ended.returncode
-
-
-def split(data):
-    return None if data is None else data.split(b"\n")
 
 
 def answers(program, words, lines, file):
@@ -52,12 +72,13 @@ def difference(program, name, each):
         came, wanted = answers(program, each.words, lines, file)
         return came != wanted
 
-    file = split(each.file)
-    lines = smallest(split(each.data), lambda fewer: differs(fewer, file))
+    file = each.file and each.file.split(b"\n")
+    lines = smallest(each.data.split(b"\n"), lambda fewer: differs(fewer, file))
     file = file and smallest(file, lambda fewer: differs(lines, fewer))
     came, wanted = answers(program, each.words, lines, file)
     told = [f"the program and the model differ on an input of the seed {name}: {' '.join(each.words)}"]
-    for head, text in (("the file", file or []), ("input", lines), ("the program", split(came[0] + came[1])), ("the model", split(wanted[0] + wanted[1]))):
+    texts = {"the file": file or [], "input": lines, "the program": (came[0] + came[1]).split(b"\n"), "the model": (wanted[0] + wanted[1]).split(b"\n")}
+    for head, text in texts.items():
         told += [f"== {head}", *("  " + repr(line)[2:-1] for line in text)]
     return "\n".join([*told, f"== statuses: {came[2]} of the program, {wanted[2]} of the model"])
 

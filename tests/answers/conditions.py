@@ -23,6 +23,7 @@ import itertools
 
 import pytest
 
+from tests.answers import Wrong, need
 from tests.drawn.lots import Lots
 from tests.drawn.rulesets.large import Large
 from tests.drawn.rulesets.model import comes_to, matched, packets_of
@@ -39,17 +40,11 @@ DUE = ("dead", "dead by a condition", "taken", "excluded", "unreached", "unmatch
 DECIDE, STAY, RETURN = "decide", "stay", "return"
 
 
-class Wrong(Exception):
-    """An answer that isn't the due one."""
-
-
 def manner_of(rule):
     """What a rule does with a packet that it matches: one of these words, or whether it jumps or goes, and where."""
     words = rule.split()
     ends = words[-1] if "-j" in words or "-g" in words else ""
-    if target_of(rule):
-        return words[-2], ends
-    return {"": STAY, "LOG": STAY, "RETURN": RETURN}.get(ends, DECIDE)
+    return (words[-2], ends) if target_of(rule) else {"": STAY, "LOG": STAY, "RETURN": RETURN}.get(ends, DECIDE)
 
 
 def needs_drawn(draw, ruleset, conditions, counts):
@@ -93,14 +88,7 @@ def trail_of(chains, matching, can):
     return trail
 
 
-def verdict_under(ruleset, chains, matching, can):
-    """The verdict of a packet."""
-    trail, rules = trail_of(chains, matching, can), ruleset.named()
-    return trail and verdict_of(rules[trail[-1]]) or ruleset.policy
-
-
 def chains_of(ruleset):
-    """The rules of each chain, by their names."""
     chains = {chain: [] for chain in ("INPUT", *ruleset.chains)}
     for name, rule in ruleset.named().items():
         chains[name.split()[0]].append((name, manner_of(rule)))
@@ -115,10 +103,8 @@ def matches_of(ruleset, packets):
 
 
 def assignments(conditions, answers=()):
-    """All that give these answers."""
-    for held in itertools.product((False, True), repeat=conditions):
-        if all(held[number] == holds for number, holds in answers):
-            yield held
+    every = itertools.product((False, True), repeat=conditions)
+    return [held for held in every if all(held[number] == holds for number, holds in answers)]
 
 
 def which_can(needs, held):
@@ -127,17 +113,13 @@ def which_can(needs, held):
 
 
 def answers_of(words):
-    """The answers that are printed."""
     answers = [(int(word.lstrip("!")), not word.startswith("!")) for word in words]
-    if len({number for number, _ in answers}) != len(answers):
-        raise Wrong("a condition is answered twice")
+    need(len({number for number, _ in answers}) == len(answers), "a condition is answered twice")
     return answers
 
 
 def packet_at_input(said):
-    """The packet that is printed, which has to be at INPUT."""
-    if said.split()[:1] != ["INPUT"]:
-        raise Wrong("a packet elsewhere")
+    need(said.split()[:1] == ["INPUT"], "a packet elsewhere")
     return packets_of([f"packet{said}"])
 
 
@@ -166,8 +148,7 @@ def asked(calls, text, compared):
     ended = calls.run(["conditions"], input=text.encode())
     said = ended.stdout.decode()
     try:
-        if ended.returncode:
-            raise Wrong(f"status {ended.returncode}")
+        need(not ended.returncode, f"status {ended.returncode}")
         compared(said)
     except Wrong as wrong:
         pytest.fail(f"{text}\n{said}\n{wrong}", pytrace=False)
@@ -185,19 +166,15 @@ def check(calls, draw, at, seen):
 
 
 def compare_both(both, conditions, said, packets, seen):
-    """Compares what was said of two rulesets."""
     life, *rest = said.partition(":")[0].split()
-    if life not in ("same", "differs"):
-        raise Wrong("neither the same nor different")
-    if life == "differs":
-        answers, packets = answers_of(rest), packet_at_input(said.partition(":")[2])
-    else:
-        answers = []
+    need(life in ("same", "differs"), "neither the same nor different")
+    answers, packets = (answers_of(rest), packet_at_input(said.partition(":")[2])) if life == "differs" else ([], packets)
     sides = [(ruleset, chains_of(ruleset), matches_of(ruleset, packets), needs) for ruleset, needs in both]
     kinds = {tuple(tuple(side[2][at].values()) for side in sides): at for at in range(len(packets))}
     for held in assignments(conditions, answers):
         for at in kinds.values():
-            old, new = (verdict_under(ruleset, chains, rows[at], which_can(needs, held)) for ruleset, chains, rows, needs in sides)
+            trails = [trail_of(chains, rows[at], which_can(needs, held)) for _, chains, rows, needs in sides]
+            old, new = (trail and verdict_of(side[0].named()[trail[-1]]) or side[0].policy for side, trail in zip(sides, trails))
             if (old == new) != (life == "same"):
                 raise Wrong(f"{old} and {new} under {held}")
     seen.add("differs by answers" if answers else life)
@@ -211,11 +188,6 @@ def led_to(chains, without=()):
         led.add(chain)
         fresh += [manner[1] for name, manner in chains[chain] if name not in without and isinstance(manner, tuple) and manner[1] not in led]
     return led
-
-
-def decider_on(trail, rules):
-    """The rule that decides a walk, or the policy."""
-    return trail[-1] if trail and verdict_of(rules[trail[-1]]) else "policy INPUT"
 
 
 def check_reason(name, words, rules, chains, walks, seen):
@@ -232,15 +204,13 @@ def check_reason(name, words, rules, chains, walks, seen):
         "unreached": not led,
         "unmatched": not meant,
         "excluded": name.split()[0] not in led_to(chains, listed) and not any(row[way] for row, _ in meant for way in listed),
-        "taken": listed == sorted({decider_on(trail, rules) for _, trail in near or meant}),
+        "taken": listed == sorted({trail[-1] if trail and verdict_of(rules[trail[-1]]) else "policy INPUT" for _, trail in near or meant}),
     }
-    if not right[kind] or (kind in ("excluded", "taken") and not meant):
-        raise Wrong(f"{name} is {kind} {listed}")
+    need(right[kind] and (meant or kind not in ("excluded", "taken")), f"{name} is {kind} {listed}")
     seen.add("unmatched by its needs" if kind == "unmatched" and matching else kind)
 
 
 def compare(ruleset, needs, conditions, said, packets, seen):
-    """Compares what was said of each rule."""
     chains, rules = chains_of(ruleset), ruleset.named()
     cans = [which_can(needs, held) for held in assignments(conditions)]
     rows = {tuple(row.items()): row for row in matches_of(ruleset, packets)}.values()
@@ -251,11 +221,10 @@ def compare(ruleset, needs, conditions, said, packets, seen):
     for line in said.splitlines():
         life, chain, number, *rest = line.partition(":")[0].split()
         name = f"{chain} {number}"
-        if name not in left:
-            raise Wrong(f"{name} is told twice, or isn't there")
+        need(name in left, f"{name} is told twice, or isn't there")
         left.remove(name)
-        if life != ("live" if name in met else "dead"):
-            raise Wrong(f"{name} is {'live' if name in met else 'dead'}")
+        due = "live" if name in met else "dead"
+        need(life == due, f"{name} is {due}")
         if life == "dead":
             seen.add("dead by a condition" if name in plain else "dead")
             check_reason(name, rest, rules, chains, walks, seen)
@@ -263,16 +232,13 @@ def compare(ruleset, needs, conditions, said, packets, seen):
         answers = answers_of(rest)
         row, = matches_of(ruleset, packet_at_input(line.partition(":")[2]))
         for held in assignments(conditions, answers):
-            if name not in trail_of(chains, row, which_can(needs, held)):
-                raise Wrong(f"{name} isn't on the walk under {held}")
+            need(name in trail_of(chains, row, which_can(needs, held)), f"{name} isn't on the walk under {held}")
         fewer = assignments(conditions, answers[:-1])
-        if answers and all(name in trail_of(chains, row, which_can(needs, held)) for held in fewer):
-            raise Wrong(f"{name} is on the walk with fewer answers")
+        need(not answers or not all(name in trail_of(chains, row, which_can(needs, held)) for held in fewer), f"{name} is on the walk with fewer answers")
         seen.add("live by answers" if answers else "live")
         if any(not holds for _, holds in answers):
             seen.add("live by a condition that fails")
-    if left:
-        raise Wrong(f"nothing is told of {left}")
+    need(not left, f"nothing is told of {left}")
 
 
 @pytest.mark.parametrize("number", range(RULESETS))

@@ -1,1 +1,1 @@
-"""Rules, packets, sessions and dumps that are drawn at random by a seed: `lots` is what all of them draw by. `smallest` makes a case that fails small."""
+"""Rules, packets, sessions and dumps that are drawn at random by a seed: `lots` is what all of them draw by."""

@@ -1,6 +1,7 @@
 """Lines of rules that are drawn at random by the table of options, each with what is to be made of it: its own words, and its conditions."""
 
 import collections
+import itertools
 
 from commands import extensions
 
@@ -26,22 +27,10 @@ READ = {"port": PORTS, "ports": PORTS, "type": TYPES, "protocol": PROTOCOLS}
 BEGINS = (b"-m", b"-j", b"-g")
 
 
-def asks(part):
-    """Whether a part asks something by itself."""
-    return part.option.place in "+="
-
-
-def is_opposed(part):
-    """Whether `!` before a part asks the opposite: of a port that the program doesn't read it doesn't, since a later fragment has none."""
-    return part.option.place == "+" and part.option.names[0] not in part.owner.unopposed
-
-
 class Writer:
-    """Draws a line, part by part."""
-
     def __init__(self, draw):
         self.draw = draw
-        # The extensions that the line has begun, the newest last, each with its parts; the parts; and what stands for the protocol's match.
+        # The extensions that the line has begun, the newest last; the parts; and what stands for the protocol's match.
         self.begun, self.parts, self.protocol = [], [], None
 
     def values(self, option):
@@ -54,39 +43,29 @@ class Writer:
 
     def add(self, owner, option, inverted):
         values, own = self.values(option)
-        part = Part(owner, option, self.draw.choice(option.names), values, inverted, own)
-        self.parts.append(part)
-        return part
+        self.parts.append(Part(owner, option, self.draw.choice(option.names), values, inverted, own))
+        return self.parts[-1]
 
     def begin(self, extension, option, name):
-        """Begins a match, or names a target or a chain."""
         self.parts.append(Part(None, option, self.draw.choice(option.names), [name], False, None))
-        if extension:
-            self.begun.append((extension, len(self.parts) - 1))
+        self.begun += [extension] if extension else []
 
     def owner_of(self, name):
         """Whose an option of this name is: the newest that has it, and else the protocol's."""
-        found = [extension for extension, _ in reversed(self.begun) if extensions.exact(name, [extension])]
-        if found:
-            return found[0]
-        return self.protocol if self.protocol and extensions.exact(name, [self.protocol]) else None
+        found = [extension for extension in reversed(self.begun) if extensions.exact(name, [extension])]
+        return found[0] if found else self.protocol if self.protocol and extensions.exact(name, [self.protocol]) else None
 
     def option(self):
         """An option of a match or target that has begun, or of the protocol's match."""
-        owners = [extension for extension, _ in self.begun] + ([self.protocol] if self.protocol else [])
-        owners = [owner for owner in owners if owner.options]
-        if not owners:
-            return
-        owner = self.draw.choice(owners)
-        option = self.draw.choice(owner.options)
-        name = self.draw.choice(option.names)
-        whose = self.owner_of(name)
-        option = extensions.exact(name, [whose])[1]
-        values, own = self.values(option)
-        self.parts.append(Part(whose, option, name, values, self.draw.random() < 0.3, own))
+        owners = [owner for owner in [*self.begun, self.protocol] if owner and owner.options]
+        if owners:
+            name = self.draw.choice(self.draw.choice(self.draw.choice(owners).options).names)
+            whose = self.owner_of(name)
+            option = extensions.exact(name, [whose])[1]
+            values, own = self.values(option)
+            self.parts.append(Part(whose, option, name, values, self.draw.random() < 0.3, own))
 
     def rule_option(self):
-        """An option of the rule itself."""
         option = self.draw.choice([option for option in extensions.RULE.options if option.names[0] not in BEGINS])
         part = self.add(extensions.RULE, option, self.draw.random() < 0.2)
         if option.names[0] == b"-p" and not part.inverted:
@@ -101,34 +80,20 @@ class Writer:
         """A target that doesn't decide, or a chain."""
         rows = [row for row in extensions.TARGETS.values() if row.kind != "decides"]
         extension = extension or self.draw.choice([*rows, None])
-        if extension is None and self.draw.random() < 0.3:
-            self.begin(None, extensions.exact(b"-g", [extensions.RULE])[1], b"chain")
-        else:
-            self.begin(extension, extensions.exact(b"-j", [extensions.RULE])[1], extension.name if extension else b"chain")
-        return extension
+        way = b"-g" if extension is None and self.draw.random() < 0.3 else b"-j"
+        self.begin(extension, extensions.exact(way, [extensions.RULE])[1], extension.name if extension else b"chain")
 
     def line(self):
-        return Line(words_of(self.parts), own_words(self.parts), conditions_of(self.parts), self.named())
-
-    def named(self):
-        """The last target that is named by `-j`."""
-        names = [part.values[0] for part in self.parts if part.option.names[0] == b"-j"]
-        return extensions.TARGETS.get(names[-1]) if names else None
-
-
-def words_of(parts):
-    return [word for part in parts for word in ([b"!"] if part.inverted else []) + [part.name, *part.values]]
+        words = [word for part in self.parts for word in [b"!"] * part.inverted + [part.name, *part.values]]
+        conditions = [found for found in (condition_at(at, self.parts) for at in range(len(self.parts))) if found]
+        named = [part.values[0] for part in self.parts if part.option.names[0] == b"-j"]
+        return Line(words, own_words(self.parts), conditions, extensions.TARGETS.get(named[-1]) if named else None)
 
 
 def parts_of(match, at, parts):
     """The parts of a match that begins at a place, up to where it begins anew."""
-    found = []
-    for part in parts[at:]:
-        if found_begin(part) == match.name and part is not parts[at]:
-            break
-        if part.owner is match:
-            found.append(part)
-    return found
+    behind = itertools.takewhile(lambda part: found_begin(part) != match.name, parts[at + 1 :])
+    return [part for part in (parts[at], *behind) if part.owner is match]
 
 
 def found_begin(part):
@@ -154,21 +119,21 @@ def own_words(parts):
         if part.owner is None and begins_own(at, parts):
             found += [part.name, *part.values]
         elif part.owner is not None and part.own is not None:
-            found += ([b"!"] if part.inverted else []) + [part.name, *part.own]
+            found += [b"!"] * part.inverted + [part.name, *part.own]
     return found
 
 
 def condition_of(match, parts):
     """The condition that a match asks by some parts; None where it always holds."""
-    asking = [part for part in parts if asks(part)]
-    single = len(asking) == 1
-    opposed = single and is_opposed(asking[0])
-    turned = any(part.option.place == "^" for part in parts)
-    inverted = (opposed and asking[0].inverted) != turned
-    if single and asking[0].option.names[0] in match.always and not inverted:
+    asking = [part for part in parts if part.option.place in "+="]
+    name = asking[0].option.names[0] if len(asking) == 1 else None
+    # (`!` before a port that the program doesn't read doesn't ask the opposite, since a later fragment has none)
+    opposed = name is not None and asking[0].option.place == "+" and name not in asking[0].owner.unopposed
+    inverted = (opposed and asking[0].inverted) != any(part.option.place == "^" for part in parts)
+    if name in match.always and not inverted:
         return None
     words = [word for part in parts if part.option.place != "^"
-             for word in ([b"!"] if part.inverted and not (opposed and asks(part)) else []) + [part.name, *part.values]]
+             for word in [b"!"] * (part.inverted and not (opposed and part in asking)) + [part.name, *part.values]]
     return Condition(match.name, words, inverted, match.notes[0] if not extensions.is_known(match) else "place")
 
 
@@ -187,7 +152,3 @@ def condition_at(at, parts):
     of_match = parts_of(match, at, parts)
     foreign = any(each.own is None for each in of_match)
     return condition_of(match, of_match) if foreign or not extensions.is_known(match) else None
-
-
-def conditions_of(parts):
-    return [found for found in (condition_at(at, parts) for at in range(len(parts))) if found]

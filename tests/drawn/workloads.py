@@ -16,6 +16,8 @@ import sys
 from tests.drawn.lots import Lots
 
 KINDS = ("generated", "distinct", "mixed")
+# Of each shape of `generated` the lengths of the source and of the destination.
+LENGTHS = (((32, 32), (24, 32)), ((12, 28), (16, 30)), ((6, 16), (10, 24)))
 COMMON_PORTS = (22, 25, 53, 80, 110, 123, 143, 443, 465, 587, 993, 995, 3306, 5432, 8080, 8443)
 
 
@@ -39,31 +41,23 @@ def host(dice, within):
     return within[0] | dice.getrandbits(32) & ~mask(within[1]) & 0xFFFFFFFF
 
 
-def ports(option, first, last):
-    return f" --{option} {first}" if first == last else f" --{option} {first}:{last}"
-
-
 def packet(dice, source, destination, protocol, interface, source_port, port):
     line = f"packet INPUT src={address(host(dice, source))} dst={address(host(dice, destination))} proto={protocol} in={interface}"
     return line + (f" sport={source_port} dport={port}" if protocol in ("tcp", "udp") else "")
 
 
 def generated(dice):
-    """A rule, and a packet of it."""
     protocol = dice.choice(("tcp", "tcp", "udp"))
     shape = dice.randrange(3)
-    if shape == 0:
-        source, destination = prefix(dice, 32, 32), prefix(dice, 24, 32)
-        first = last = dice.randrange(65536)
-    elif shape == 1:
-        source, destination = prefix(dice, 12, 28), prefix(dice, 16, 30)
-        first = last = dice.choice((22, 25, 53, 80, 443, 8080, dice.randrange(65536)))
-    else:
-        source, destination = prefix(dice, 6, 16), prefix(dice, 10, 24)
+    source, destination = (prefix(dice, *lengths) for lengths in LENGTHS[shape])
+    if shape == 2:
         first = dice.randrange(60000)
         last = first + dice.randrange(1, 5000)
+    else:
+        first = last = dice.choice((22, 25, 53, 80, 443, 8080, dice.randrange(65536))) if shape else dice.randrange(65536)
+    port = f"{first}" if first == last else f"{first}:{last}"
     rule = f"-s {address(source[0])}/{source[1]} -d {address(destination[0])}/{destination[1]} -p {protocol} -m {protocol}"
-    rule += ports("dport", first, last) + f" -j {dice.choice(('ACCEPT', 'DROP'))}"
+    rule += f" --dport {port} -j {dice.choice(('ACCEPT', 'DROP'))}"
     return rule, packet(dice, source, destination, protocol, "eth0", dice.randrange(65536), dice.randint(first, last))
 
 
@@ -111,11 +105,6 @@ def both(dice, place):
     source_port, port = 1025 + place % 8192, dice.randrange(40000, 65536)
     rule = f"-p tcp -m multiport --ports {source_port},{20000 + place % 8192} -j ACCEPT"
     return rule, packet(dice, None, None, "tcp", "eth0", source_port, port)
-
-
-def stray(dice):
-    """A packet of no rule of `distinct` and `both`, and mostly of none at all."""
-    return packet(dice, None, None, "tcp", "eth0", 65535, dice.randrange(40000, 65536))
 
 
 def of_kind(kind, count):
@@ -176,7 +165,8 @@ def printed(name, count):
     rules, packets = of_kind(kind, count)
     dice = Lots(11)
     if match == "none":
-        packets = [stray(dice) for _ in range(1024)]
+        # Of no rule of `distinct` and `both`, and mostly of none at all.
+        packets = [packet(dice, None, None, "tcp", "eth0", 65535, dice.randrange(40000, 65536)) for _ in range(1024)]
     elif match:
         place = {"first": 0, "last": count - 1}[match]
         packets = [{"distinct": distinct, "both": both}[kind](dice, place)[1] for _ in range(1024)]

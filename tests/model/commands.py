@@ -5,21 +5,14 @@ import re
 from . import printing, values
 from .faults import Fault, need
 from .options import rule_of
+from .table import Table
 
 # Each command with its names and what follows: `chain` and `word` are there, `chain?` and `number?` may be, and `rule` is all
 # words that are left. `number?` is a word of digits; `or rule` is a rule where there is no number.
 COMMANDS = [
-    ("-A --append", "chain rule"),
-    ("-C --check", "chain rule"),
-    ("-D --delete", "chain number? or rule"),
-    ("-I --insert", "chain number? rule"),
-    ("-R --replace", "chain number rule"),
-    ("-F --flush", "chain?"),
-    ("-X --delete-chain", "chain?"),
-    ("-S --list-rules", "chain?"),
-    ("-N --new-chain", "chain"),
-    ("-P --policy", "chain word"),
-    ("-E --rename-chain", "chain word"),
+    ("-A --append", "chain rule"), ("-C --check", "chain rule"), ("-D --delete", "chain number? or rule"), ("-I --insert", "chain number? rule"),
+    ("-R --replace", "chain number rule"), ("-F --flush", "chain?"), ("-X --delete-chain", "chain?"), ("-S --list-rules", "chain?"),
+    ("-N --new-chain", "chain"), ("-P --policy", "chain word"), ("-E --rename-chain", "chain word"),
 ]
 BY_NAME = {name.encode(): (names.split()[0], form.split()) for names, form in COMMANDS for name in names.split()}
 TABLE_NAMES = (b"-t", b"--table")
@@ -63,9 +56,8 @@ def command_of(words, in_restore=False):
             taken.append(left.pop(0) if left else None)
         elif part == "number?":
             taken.append(values.number(left.pop(0)) if left and DIGITS.fullmatch(left[0]) else None)
-        elif part == "or":
-            if taken[-1] is not None:
-                break
+        elif part == "or" and taken[-1] is not None:
+            break
         elif part == "rule":
             taken.append(rule_in(left))
             left = []
@@ -73,31 +65,18 @@ def command_of(words, in_restore=False):
     return name, taken
 
 
-def delete(table, chain, number, rule=None):
-    if number is None:
-        table.delete_rule(chain, rule)
-    else:
-        table.delete(chain, number)
-
-
-def delete_chains(table, chain):
-    if chain is None:
-        table.delete_chains()
-    else:
-        table.delete_chain(chain)
-
-
+# What each command but -S does to a table.
 DOES = {
-    "-A": lambda table, chain, rule: table.append(chain, rule),
-    "-C": lambda table, chain, rule: table.place_of(chain, rule),
-    "-D": delete,
+    "-A": Table.append,
+    "-C": Table.place_of,
+    "-D": lambda table, chain, number, rule=None: table.delete(chain, table.place_of(chain, rule) + 1 if number is None else number),
     "-I": lambda table, chain, number, rule: table.insert(chain, 1 if number is None else number, rule),
-    "-R": lambda table, chain, number, rule: table.replace(chain, number, rule),
-    "-F": lambda table, chain: table.flush(chain),
-    "-X": delete_chains,
-    "-N": lambda table, chain: table.new_chain(chain),
-    "-P": lambda table, chain, policy: table.set_policy(chain, policy),
-    "-E": lambda table, chain, new: table.rename(chain, new),
+    "-R": Table.replace,
+    "-F": Table.flush,
+    "-X": Table.delete_chains,
+    "-N": Table.new_chain,
+    "-P": Table.set_policy,
+    "-E": Table.rename,
 }
 
 

@@ -1,5 +1,7 @@
 """Which numbers of a packet a rule allows, field by field; and the lines of a chain, which show where that changes."""
 
+import operator
+
 # The fields of a packet with their greatest numbers, in the order in which `lines` shows them.
 FIELDS = {
     "src": 2**32 - 1, "dst": 2**32 - 1, "in": 2**128 - 1, "out": 2**128 - 1, "proto": 255, "frag": 1, "sport": 65535, "dport": 65535,
@@ -21,29 +23,12 @@ def fits_name(value, number):
     return name.startswith(value[:-1]) if value.endswith(b"+") else name == value.ljust(16, b"\0")
 
 
-def equals(value, number):
-    return number == value
-
-
-def is_fragment(_, number):
-    return number == 1
-
-
-def is_first_fragment(_, number):
-    return number == 0
-
-
 def lies_in(value, number):
     return value[0] <= number <= value[1]
 
 
 def is_listed(value, number):
     return any(lies_in(each, number) for each in value)
-
-
-def has_flags(value, number):
-    mask, comp = value
-    return number & mask == comp
 
 
 def has_type(value, number):
@@ -57,22 +42,13 @@ def has_state(value, number):
     return state[0] in value or b"SNAT" in value and changed in (1, 3) or b"DNAT" in value and changed in (2, 3)
 
 
-def is_above(value, number):
-    return number > value
-
-
-def is_below(value, number):
-    return number < value
-
-
-# The field that an option asks, and how. `--ports` asks two fields together, and `--comment` none.
+# The field that an option asks, and how it is asked of the option's value and a number. `--ports` asks two fields together, and `--comment` none.
 ASKS = {
-    b"-s": ("src", in_network), b"-d": ("dst", in_network), b"-i": ("in", fits_name), b"-o": ("out", fits_name),
-    b"-p": ("proto", equals), b"-f": ("frag", is_fragment), b"--sport": ("sport", lies_in), b"--dport": ("dport", lies_in),
-    b"--tcp-flags": ("flags", has_flags), b"--icmp-type": ("icmp", has_type), b"--sports": ("sport", is_listed),
-    b"--dports": ("dport", is_listed), b"--src-range": ("src", lies_in), b"--dst-range": ("dst", lies_in),
-    b"--ctstate": ("ct", has_state), b"--state": ("ct", has_state), b"--ttl-eq": ("ttl", equals), b"--ttl-gt": ("ttl", is_above),
-    b"--ttl-lt": ("ttl", is_below),
+    b"-s": ("src", in_network), b"-d": ("dst", in_network), b"-i": ("in", fits_name), b"-o": ("out", fits_name), b"-p": ("proto", operator.eq),
+    b"-f": ("frag", lambda _, number: number == 1), b"--sport": ("sport", lies_in), b"--dport": ("dport", lies_in),
+    b"--tcp-flags": ("flags", lambda value, number: number & value[0] == value[1]), b"--icmp-type": ("icmp", has_type), b"--sports": ("sport", is_listed),
+    b"--dports": ("dport", is_listed), b"--src-range": ("src", lies_in), b"--dst-range": ("dst", lies_in), b"--ctstate": ("ct", has_state),
+    b"--state": ("ct", has_state), b"--ttl-eq": ("ttl", operator.eq), b"--ttl-gt": ("ttl", operator.lt), b"--ttl-lt": ("ttl", operator.gt),
 }
 
 
@@ -82,37 +58,21 @@ def asked(rule):
         rule.asked = []
         for part in [rule.own, *rule.matches]:
             if part.name in FIRST_FRAGMENT_ONLY:
-                rule.asked.append(("frag", is_first_fragment, None, False))
-            for each in part.conditions:
-                if each.name in ASKS:
-                    field, how = ASKS[each.name]
-                    rule.asked.append((field, how, each.value, each.inverted))
+                rule.asked.append(("frag", operator.eq, 0, False))
+            rule.asked += [(*ASKS[each.name], each.value, each.inverted) for each in part.conditions if each.name in ASKS]
     return rule.asked
-
-
-def allows(rule, field, number):
-    """Whether every condition of a rule on a field holds of a number."""
-    return all(how(value, number) != inverted for on, how, value, inverted in asked(rule) if on == field)
 
 
 def has_ports(rule, packet):
     """Whether every `--ports` holds: the source or the destination port is listed, or with `!` neither is."""
-    for part in rule.matches:
-        for each in part.conditions:
-            if each.name == b"--ports":
-                found = is_listed(each.value, packet.numbers["sport"]) or is_listed(each.value, packet.numbers["dport"])
-                if found == each.inverted:
-                    return False
-    return True
+    both = packet.numbers["sport"], packet.numbers["dport"]
+    asking = [each for part in rule.matches for each in part.conditions if each.name == b"--ports"]
+    return all(any(is_listed(each.value, number) for number in both) != each.inverted for each in asking)
 
 
 def matches(rule, packet):
-    """Whether each condition of a rule holds of a packet."""
     numbers = packet.numbers
-    for field, how, value, inverted in asked(rule):
-        if how(value, numbers[field]) == inverted:
-            return False
-    return has_ports(rule, packet)
+    return all(how(value, numbers[field]) != inverted for field, how, value, inverted in asked(rule)) and has_ports(rule, packet)
 
 
 def ends(how, value):
@@ -147,7 +107,8 @@ def pieces(rules, field):
     """(start, numbers of the rules that allow it): at 0, and wherever a rule allows exactly one of a number and the one before."""
 
     def allowing(number):
-        return [place for place, rule in enumerate(rules, 1) if allows(rule, field, number)]
+        return [place for place, rule in enumerate(rules, 1)
+                if all(how(value, number) != inverted for on, how, value, inverted in asked(rule) if on == field)]
 
     found = [(0, allowing(0))]
     for number in places_to_ask(rules, field):
@@ -157,14 +118,11 @@ def pieces(rules, field):
     return found
 
 
-def start(field, number):
-    return b"%032x" % number if field in ("in", "out") else b"%d" % number
-
-
 def lines_of_chain(rules):
     """The reply to `lines`."""
     replies = []
     for field in FIELDS:
-        shown = [b" %s:{%s}" % (start(field, number), b",".join(b"%d" % each for each in there)) for number, there in pieces(rules, field)]
+        form = b" %032x:{%s}" if field in ("in", "out") else b" %d:{%s}"
+        shown = [form % (number, b",".join(b"%d" % each for each in there)) for number, there in pieces(rules, field)]
         replies.append(field.encode() + b"".join(shown))
     return replies

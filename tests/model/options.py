@@ -37,14 +37,14 @@ OPTIONS = [
     option("iprange", "--src-range", values.host_range, inverts=True),
     option("iprange", "--dst-range", values.host_range, inverts=True),
     option("conntrack", "--ctstate", values.states, inverts=True),
-    option("state", "--state", values.plain_states, inverts=True),
-    option("ttl", "--ttl-eq", values.time_to_live, inverts=True, slot="ttl"),
-    option("ttl", "--ttl-gt", values.time_to_live, slot="ttl"),
-    option("ttl", "--ttl-lt", values.time_to_live, slot="ttl"),
+    option("state", "--state", lambda word: values.states(word, values.STATES[:5]), inverts=True),
+    option("ttl", "--ttl-eq", values.below(255), inverts=True, slot="ttl"),
+    option("ttl", "--ttl-gt", values.below(255), slot="ttl"),
+    option("ttl", "--ttl-lt", values.below(255), slot="ttl"),
     option("comment", "--comment", values.text(256)),
-    option("REJECT", "--reject-with", values.reject_type),
+    option("REJECT", "--reject-with", values.one_of(values.REJECT_TYPES)),
     option("LOG", "--log-prefix", values.text(29)),
-    option("LOG", "--log-level", values.level),
+    option("LOG", "--log-level", lambda word: values.LEVELS.index(word) if word in values.LEVELS else values.number(word, 7)),
     option("LOG", "--log-tcp-sequence"),
     option("LOG", "--log-tcp-options"),
     option("LOG", "--log-ip-options"),
@@ -61,8 +61,8 @@ WITH_OPTION = ("multiport", "iprange", "conntrack", "state", "ttl", "comment")
 MATCHES = ("tcp", "udp", "icmp", *WITH_OPTION)
 MOST_MATCHES = 16
 
-# What is no condition, unless it is inverted.
-ALL_PORTS, NO_FLAGS = (0, 65535), (0, 0)
+# Values that are no condition, unless they are inverted; nor is an address of which no bit is asked.
+ALL = {b"-i": b"+", b"-o": b"+", b"-p": 0, b"--sport": (0, 65535), b"--dport": (0, 65535), b"--tcp-flags": (0, 0)}
 
 # A condition: the option's first name, whether it is inverted, and its value. Settings of targets have the same form.
 Condition = collections.namedtuple("Condition", "name inverted value")
@@ -87,18 +87,7 @@ class Rule:
         return any(each.name == name for each in self.own.conditions)
 
     def to(self, chain):
-        """The same rule with another chain."""
         return Rule(self.own, self.matches, (self.target[0], chain), self.settings)
-
-
-def is_no_condition(name, value):
-    if name in (b"-s", b"-d"):
-        return value[1] == 0
-    if name in (b"-i", b"-o"):
-        return value == b"+"
-    if name in (b"--sport", b"--dport"):
-        return value == ALL_PORTS
-    return name == b"-p" and value == 0 or name == b"--tcp-flags" and value == NO_FLAGS
 
 
 class Given:
@@ -116,8 +105,6 @@ class Given:
 
 
 class Reader:
-    """Words read as a rule, from left to right."""
-
     def __init__(self, words):
         self.words, self.at = words, 0
         self.own, self.matches, self.target, self.settings = Given("rule"), [], None, Given("target")
@@ -159,22 +146,21 @@ class Reader:
         if found.owners[0] in ("REJECT", "LOG"):
             need(self.target == (b"-j", found.owners[0].encode()), "P11")
             return self.settings
-        for match in reversed(self.matches):
-            if match.name in found.owners:
-                return match
+        begun = [match for match in self.matches if match.name in found.owners]
+        if begun:
+            return begun[-1]
         need(any(owner in STARTED_BY.values() for owner in found.owners), "P1")
         started = STARTED_BY.get(self.own.value(b"-p"))
         need(started in found.owners, "P6")
         return self.start_match(started.encode())
 
     def start_match(self, word):
-        need(word in [name.encode() for name in MATCHES], "P7")
+        need(word.decode("latin-1") in MATCHES, "P7")
         need(len(self.matches) < MOST_MATCHES, "P8")
         self.matches.append(Given(word.decode()))
         return self.matches[-1]
 
     def take(self, owner, name, inverted, read):
-        """Keeps what an option says."""
         if name in (b"-j", b"-g"):
             self.target = (name, read[0])
             return
@@ -182,7 +168,8 @@ class Reader:
             name, read = b"--tcp-flags", [values.flags(b"SYN,RST,ACK,FIN"), values.flags(b"SYN")]
         value = read[0] if len(read) == 1 else tuple(read)
         need(not (name == b"-p" and inverted and value == 0), "P3")
-        if inverted or not is_no_condition(name, value):
+        is_all = value[1] == 0 if name in (b"-s", b"-d") else ALL.get(name) == value
+        if inverted or not is_all:
             owner.conditions.append(Condition(name, inverted, value))
 
     def ask_needs(self):
@@ -195,5 +182,4 @@ class Reader:
 
 
 def rule_of(words):
-    """The rule of words, or its first fault."""
     return Reader(words).read()

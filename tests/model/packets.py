@@ -31,13 +31,9 @@ def state(word):
     return STATE_NUMBERS[first] + (translations[rest] if comma else 0)
 
 
-def below(top):
-    return lambda word: values.number(word, top)
-
-
 KEYS = {
-    b"src": values.host, b"dst": values.host, b"proto": protocol, b"in": interface, b"out": interface, b"frag": below(1),
-    b"sport": below(65535), b"dport": below(65535), b"flags": values.flags, b"icmp": icmp, b"ct": state, b"ttl": below(255),
+    b"src": values.host, b"dst": values.host, b"proto": protocol, b"in": interface, b"out": interface, b"frag": values.below(1),
+    b"sport": values.below(65535), b"dport": values.below(65535), b"flags": values.flags, b"icmp": icmp, b"ct": state, b"ttl": values.below(255),
 }
 
 
@@ -64,10 +60,7 @@ def given_by(words):
 def carried(hook, given):
     """The keys that the packet carries, and of these the ones that it needs."""
     keys, due = {b"src", b"dst", b"proto", b"frag", b"ct", b"ttl"}, {b"src", b"dst", b"proto"}
-    if hook != b"OUTPUT":
-        keys.add(b"in")
-    if hook != b"INPUT":
-        keys.add(b"out")
+    keys |= {b"INPUT": {b"in"}, b"OUTPUT": {b"out"}}.get(hook, {b"in", b"out"})
     if given.get(b"frag", 0) == 0:
         protocol = given.get(b"proto")
         parts = {b"sport", b"dport"} if protocol in WITH_PORTS else {b"icmp"} if protocol == 1 else set()
@@ -77,7 +70,6 @@ def carried(hook, given):
 
 
 def packet_of(words):
-    """The packet of the words after `packet`, or its first fault."""
     need(words and words[0] in values.BUILT_IN, "F1")
     given = given_by(words[1:])
     keys, due = carried(words[0], given)

@@ -6,27 +6,28 @@ in this folder, is written from the manuals and shares nothing with the program:
 wrong the status is 2.
 """
 
+import argparse
+import pathlib
 import sys
 
 from tests.model.session import answer
 
-OPTIONS = {"session": set(), "restore": {"--noflush", "--test"}}
 
-
-def main(words):
-    file = None
-    if words[-2:-1] == ["--load"]:
-        with open(words.pop(), "rb") as opened:
-            file = opened.read()
-        words.pop()
-    if not words or words[0] not in OPTIONS or not OPTIONS[words[0]].issuperset(words[1:]):
-        print("plain: say session, or restore with --noflush or --test, and --load with a file last", file=sys.stderr)
-        return 2
-    output, errors, status = answer(words, sys.stdin.buffer.read(), file)
+def main():
+    reader = argparse.ArgumentParser(prog="plain")
+    reader.add_argument("command", choices=["session", "restore"])
+    reader.add_argument("--noflush", action="store_true")
+    reader.add_argument("--test", action="store_true")
+    reader.add_argument("--load", metavar="FILE", type=pathlib.Path)
+    words = reader.parse_args()
+    if words.command == "session" and (words.noflush or words.test):
+        reader.error("--noflush and --test go with restore")
+    options = ["--noflush"] * words.noflush + ["--test"] * words.test
+    output, errors, status = answer([words.command, *options], sys.stdin.buffer.read(), words.load and words.load.read_bytes())
     sys.stdout.buffer.write(output)
     sys.stderr.buffer.write(errors)
     return status
 
 
 if __name__ == "__main__":
-    sys.exit(main(sys.argv[1:]))
+    sys.exit(main())

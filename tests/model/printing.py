@@ -4,9 +4,8 @@ import re
 
 from . import values
 
-PROTOCOL_NAMES = {}
-for _name, _number in values.PROTOCOLS.items():
-    PROTOCOL_NAMES.setdefault(_number, _name)
+# Of the names of a protocol the first.
+PROTOCOL_NAMES = {number: name for name, number in reversed(values.PROTOCOLS.items())}
 PLAIN_TEXT = re.compile(rb"[A-Za-z0-9_-]+")
 
 
@@ -27,33 +26,13 @@ def port(value):
     return decimal(first) if first == last else b"%d:%d" % (first, last)
 
 
-def ports(value):
-    return b",".join(port(each) for each in value)
-
-
 def flags(value):
     return b",".join(name for name, bit in values.FLAGS.items() if value & bit) or b"NONE"
-
-
-def mask_and_flags(value):
-    return b" ".join(flags(each) for each in value)
 
 
 def icmp_type(value):
     kind, code = value
     return b"any" if kind == 255 else decimal(kind) if code is None else b"%d/%d" % (kind, code)
-
-
-def host_range(value):
-    return b"-".join(host(each) for each in value)
-
-
-def states(value):
-    return b",".join(name for name in values.STATES if name in value)
-
-
-def protocol(value):
-    return PROTOCOL_NAMES.get(value) or decimal(value)
 
 
 def text(value):
@@ -63,13 +42,18 @@ def text(value):
     return b'"%s"' % re.sub(rb"([\"\\'])", rb"\\\1", value)
 
 
+def states(value):
+    return b",".join(name for name in values.STATES if name in value)
+
+
 # How the value of an option is written; interfaces and reject types as they are.
 WRITTEN = {
-    b"-s": address, b"-d": address, b"-i": bytes, b"-o": bytes, b"-p": protocol, b"--sport": port, b"--dport": port,
-    b"--tcp-flags": mask_and_flags, b"--icmp-type": icmp_type, b"--sports": ports, b"--dports": ports, b"--ports": ports,
-    b"--src-range": host_range, b"--dst-range": host_range, b"--ctstate": states, b"--state": states, b"--ttl-eq": decimal,
-    b"--ttl-gt": decimal, b"--ttl-lt": decimal, b"--comment": text, b"--reject-with": bytes, b"--log-prefix": text,
-    b"--log-level": decimal,
+    b"-s": address, b"-d": address, b"-i": bytes, b"-o": bytes, b"-p": lambda value: PROTOCOL_NAMES.get(value) or decimal(value),
+    b"--sport": port, b"--dport": port, b"--tcp-flags": lambda value: b" ".join(map(flags, value)), b"--icmp-type": icmp_type,
+    **dict.fromkeys((b"--sports", b"--dports", b"--ports"), lambda value: b",".join(map(port, value))),
+    **dict.fromkeys((b"--src-range", b"--dst-range"), lambda value: b"-".join(map(host, value))),
+    b"--ctstate": states, b"--state": states, b"--ttl-eq": decimal, b"--ttl-gt": decimal, b"--ttl-lt": decimal, b"--comment": text,
+    b"--reject-with": bytes, b"--log-prefix": text, b"--log-level": decimal,
 }
 
 
@@ -88,9 +72,7 @@ def conditions(part):
 
 
 def match(part):
-    written = conditions(part)
-    if part.name == "icmp" and not written:
-        written = b" --icmp-type any"
+    written = conditions(part) or (b" --icmp-type any" if part.name == "icmp" else b"")
     return b" -m " + part.name.encode() + written
 
 
@@ -116,20 +98,12 @@ def rules(table, chain):
 
 def listing(table):
     """What iptables-save writes."""
-    lines = [b"*filter"]
-    for chain in table.in_order():
-        lines.append(b":%s %s [0:0]" % (chain, table.policies.get(chain, b"-")))
-    for chain in table.in_order():
-        lines += rules(table, chain)
-    return lines + [b"COMMIT"]
+    heads = [b":%s %s [0:0]" % (chain, table.policies.get(chain, b"-")) for chain in table.in_order()]
+    return [b"*filter", *heads, *(line for chain in table.in_order() for line in rules(table, chain)), b"COMMIT"]
 
 
 def rules_listing(table, chain=None):
     """What -S writes, of one chain or of all."""
-    lines = []
     chosen = table.in_order() if chain is None else [chain]
-    for name in chosen:
-        lines.append(b"-P %s %s" % (name, table.policies[name]) if name in table.policies else b"-N %s" % name)
-    for name in chosen:
-        lines += rules(table, name)
-    return lines
+    heads = [b"-P %s %s" % (name, table.policies[name]) if name in table.policies else b"-N %s" % name for name in chosen]
+    return heads + [line for name in chosen for line in rules(table, name)]

@@ -18,7 +18,6 @@ class Restore:
         self.where, self.built, self.named = OUTSIDE, None, set()
 
     def line(self, line):
-        """One line, done or refused."""
         need(not is_too_long(line), "R6")
         if is_passed_over(line):
             return
@@ -32,9 +31,8 @@ class Restore:
 
     def words(self, words):
         begins_section = words[0].startswith(b"*")
-        need(begins_section == (self.where == OUTSIDE), "R1")
+        need(begins_section == (self.where == OUTSIDE) and (len(words) == 1 or not begins_section), "R1")
         if begins_section:
-            need(len(words) == 1, "R1")
             self.begin(words[0] == b"*filter")
         elif words[0].startswith(b":"):
             self.chain_line(words)
@@ -55,13 +53,12 @@ class Restore:
         need(policy == b"-" or is_built_in and policy in (b"ACCEPT", b"DROP"), "R2")
         need(name not in self.named, "R3")
         self.named.add(name)
-        if is_built_in:
-            if policy != b"-":
-                self.built.set_policy(name, policy)
-        elif name in self.built.chains:
-            self.built.flush(name)
-        else:
+        if policy != b"-":
+            self.built.set_policy(name, policy)
+        elif name not in self.built.chains:
             self.built.new_chain(name)
+        elif not is_built_in:
+            self.built.flush(name)
 
     def commit(self):
         """Puts the section's table in place, but not in a test."""

@@ -35,10 +35,7 @@ class Session:
         self.count += 1
         try:
             self.ask_memory(line)
-            if self.restore:
-                self.restore_line(line)
-                return []
-            return self.session_line(line)
+            return self.restore_line(line) if self.restore else self.session_line(line)
         except Fault as fault:
             return self.fault(fault)
 
@@ -64,6 +61,7 @@ class Session:
                 ended.finish()
         elif not self.has_failed:
             self.restore.line(line)
+        return []
 
     def session_line(self, line):
         need(not is_too_long(line), "R6")
@@ -104,30 +102,11 @@ class Session:
 
     def finish(self):
         """What is said at the end of the input."""
-        if not self.restore or self.has_failed:
-            return []
-        return self.fault(Fault("S3"))
+        return self.fault(Fault("S3")) if self.restore and not self.has_failed else []
 
 
 def whole(replies):
     return b"".join(line + b"\n" for line in replies)
-
-
-def session(data, table=None, marks=()):
-    """The output and the status of a session."""
-    run = Session(table, marks)
-    replies = [reply for line in lines_of(data) for reply in run.line(line)]
-    replies += run.finish()
-    return whole(replies), run.status
-
-
-def restore(data, noflush=False, test=False, table=None, marks=()):
-    """The output and the status of an input that is one restore."""
-    run = Session(table, marks)
-    replies = run.whole_restore(data, noflush, test)
-    if not replies and not test:
-        replies = printing.listing(run.table)
-    return whole(replies), run.status
 
 
 def loaded(file, marks=()):
@@ -144,8 +123,10 @@ def answer(words, data, file=None, marks=(), file_marks=()):
     table, said, status = loaded(file, file_marks) if file is not None else (None, b"", 0)
     if said:
         return b"", said, status
+    run = Session(table, marks)
     if words[0] == "session":
-        output, status = session(data, table, marks)
+        replies = [reply for line in lines_of(data) for reply in run.line(line)] + run.finish()
     else:
-        output, status = restore(data, "--noflush" in words, "--test" in words, table, marks)
-    return output, b"", status
+        said = run.whole_restore(data, "--noflush" in words, "--test" in words)
+        replies = said or ([] if "--test" in words else printing.listing(run.table))
+    return whole(replies), b"", run.status

@@ -1,7 +1,7 @@
 """The table: chains as lists of rules. Each edit is done or refused by the first fault, and then changes nothing."""
 
 from . import printing, values
-from .faults import Fault, need
+from .faults import need
 from .matching import matches
 
 MOST_RULES = 8192
@@ -18,8 +18,7 @@ class Table:
 
     def copy(self):
         other = Table()
-        other.policies = dict(self.policies)
-        other.chains = {name: list(rules) for name, rules in self.chains.items()}
+        other.policies, other.chains = dict(self.policies), {name: list(rules) for name, rules in self.chains.items()}
         return other
 
     def user_chains(self):
@@ -36,7 +35,6 @@ class Table:
     # Rules.
 
     def ask_rule(self, chain, rule):
-        """What is asked of a rule that is put into a chain."""
         need(chain not in NOT_ALLOWED or not rule.has(NOT_ALLOWED[chain]), "T13")
         target = rule.chain()
         if target is not None:
@@ -80,13 +78,9 @@ class Table:
     def place_of(self, chain, rule):
         """Where the first rule is that is listed as this one."""
         text = printing.rule(rule)
-        for place, each in enumerate(self.rules(chain)):
-            if printing.rule(each) == text:
-                return place
-        raise Fault("T5")
-
-    def delete_rule(self, chain, rule):
-        del self.rules(chain)[self.place_of(chain, rule)]
+        place = next((place for place, each in enumerate(self.rules(chain)) if printing.rule(each) == text), None)
+        need(place is not None, "T5")
+        return place
 
     def flush(self, chain=None):
         for name in list(self.chains) if chain is None else [chain]:
@@ -100,20 +94,14 @@ class Table:
         need(len(self.user_chains()) < MOST_CHAINS, "T15")
         self.chains[name] = []
 
-    def is_named(self, chain):
-        return any(rule.chain() == chain for rules in self.chains.values() for rule in rules)
-
-    def delete_chain(self, name):
-        rules = self.rules(name)
-        need(name not in self.policies, "T8")
-        need(not rules, "T6")
-        need(not self.is_named(name), "T7")
-        del self.chains[name]
-
-    def delete_chains(self):
-        names = self.user_chains()
+    def delete_chains(self, chain=None):
+        """One chain, or all of the user's, of which none is deleted where one can't be."""
+        if chain is not None:
+            self.rules(chain)
+        names = self.user_chains() if chain is None else [chain]
+        need(chain not in self.policies, "T8")
         need(not any(self.chains[name] for name in names), "T6")
-        need(not any(self.is_named(name) for name in names), "T7")
+        need(not any(rule.chain() in names for rules in self.chains.values() for rule in rules), "T7")
         for name in names:
             del self.chains[name]
 
@@ -135,10 +123,6 @@ class Table:
     def clear(self):
         """Takes all rules and user chains away; the policies stay."""
         self.chains = {name: [] for name in values.BUILT_IN}
-
-
-def reject_type(rule):
-    return next((each.value for each in rule.settings.conditions), b"icmp-port-unreachable")
 
 
 def walk(table, packet):
@@ -163,7 +147,8 @@ def walk(table, packet):
         if name in (b"ACCEPT", b"DROP"):
             return trail, b"%s by rule" % name
         if name == b"REJECT":
-            return trail, b"REJECT %s by rule" % reject_type(rule)
+            kind = next((each.value for each in rule.settings.conditions), b"icmp-port-unreachable")
+            return trail, b"REJECT %s by rule" % kind
         if name == b"RETURN":
             at = len(rules)
         elif name != b"LOG":

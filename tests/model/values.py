@@ -2,7 +2,7 @@
 
 import re
 
-from .faults import Fault, need
+from .faults import need
 
 BUILT_IN = (b"INPUT", b"FORWARD", b"OUTPUT")
 TARGETS = (b"ACCEPT", b"DROP", b"RETURN", b"REJECT", b"LOG")
@@ -37,10 +37,7 @@ def host(word):
     """Four numbers with dots, as one number."""
     parts = word.split(b".")
     need(len(parts) == 4, "P3")
-    total = 0
-    for part in parts:
-        total = total * 256 + number(part, 255)
-    return total
+    return int.from_bytes(bytes(number(part, 255) for part in parts), "big")
 
 
 def address(word):
@@ -104,11 +101,6 @@ def states(word, known=STATES):
     return names
 
 
-def plain_states(word):
-    """Those of the match state, which knows no address translation."""
-    return states(word, STATES[:5])
-
-
 def icmp_type(word):
     """(type, code), or (type, None) for all codes; 255 is any type."""
     if word in ICMP_TYPES:
@@ -138,25 +130,26 @@ def target(word):
     return word if word in TARGETS else chain(word)
 
 
-def reject_type(word):
-    need(word in REJECT_TYPES, "P3")
-    return word
+def one_of(known):
+    """A reader of some words."""
+
+    def read(word):
+        need(word in known, "P3")
+        return word
+
+    return read
 
 
-def level(word):
-    return LEVELS.index(word) if word in LEVELS else number(word, 7)
-
-
-def time_to_live(word):
-    return number(word, 255)
+def below(most):
+    """A reader of numbers, of which none is greater."""
+    return lambda word: number(word, most)
 
 
 def text(most):
     """A reader of any bytes, of which there are not more."""
 
     def read(word):
-        if len(word) > most:
-            raise Fault("P10")
+        need(len(word) <= most, "P10")
         return word
 
     return read

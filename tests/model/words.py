@@ -21,7 +21,6 @@ def is_too_long(line):
 
 
 def is_passed_over(line):
-    """Whether a line is blank or a comment."""
     begun = line.lstrip(BLANKS)
     return not begun or begun.startswith(b"#")
 

@@ -3,9 +3,9 @@
 from .ruleset import target_of, verdict_of
 
 MOST = 10
-# How often each edit is drawn; and the same of those after which packets mostly get the verdicts that they got.
-KINDS = {"delete": 5, "insert": 5, "decide": 3, "swap": 3, "move": 2, "add chain": 1, "remove chain": 1}
-QUIET_KINDS = {"dead": 4, "log": 2, "again": 2, "swap": 2, "add chain": 1}
+# How often each edit, a method of Edits, is drawn; and the same of those after which packets mostly get the verdicts that they got.
+KINDS = {"delete": 5, "insert": 5, "decide": 3, "swap": 3, "move": 2, "add_chain": 1, "remove_chain": 1}
+QUIET_KINDS = {"dead": 4, "log": 2, "again": 2, "swap": 2, "add_chain": 1}
 # How often an edit is a quiet one, in all edits of one ruleset; and how often the policy is changed last.
 QUIET, POLICY = (0, 0, 0.5, 0.9, 1), 0.12
 NEW_CHAIN = "VPN"
@@ -30,7 +30,6 @@ class Edits:
         return self.ruleset.rules[place].split()[1]
 
     def put(self, first, end, *rules):
-        """Puts rules in the place of others."""
         kept = self.ruleset.rules
         self.ruleset = self.ruleset._replace(rules=[*kept[:first], *rules, *kept[end:]])
 
@@ -45,7 +44,6 @@ class Edits:
         self.put(place, place, self.large.rule(chain, self.later(chain), self.draw.random() < 0.5))
 
     def decide(self):
-        """Replaces a verdict by another."""
         decides = [place for place, rule in enumerate(self.ruleset.rules) if verdict_of(rule)]
         if decides:
             place = self.draw.choice(decides)
@@ -54,14 +52,12 @@ class Edits:
             self.put(place, place + 1, f"{head} {self.draw.choice(others)}")
 
     def swap(self):
-        """Turns two neighbours about."""
         there = [place for place in range(1, len(self.ruleset.rules)) if self.chain_at(place - 1) == self.chain_at(place)]
         if there:
             place = self.draw.choice(there)
             self.put(place - 1, place + 1, *self.ruleset.rules[place - 1 : place + 1][::-1])
 
     def move(self):
-        """Moves a rule to another place of its chain."""
         place = self.place()
         rule, chain = self.ruleset.rules[place], self.chain_at(place)
         self.put(place, place + 1)
@@ -81,11 +77,10 @@ class Edits:
         chains.insert(self.draw.randint(len(chains) - len(self.later(chain)), len(chains)), NEW_CHAIN)
         self.ruleset = self.ruleset._replace(chains=chains)
         self.put(place, place, f"-A {chain} {' '.join(self.large.conditions(True))} -j {NEW_CHAIN}")
-        self.put(len(self.ruleset.rules), len(self.ruleset.rules),
-                 *(self.large.rule(NEW_CHAIN, self.later(NEW_CHAIN)) for _ in range(self.draw.randint(1, 3))))
+        rules, end = [self.large.rule(NEW_CHAIN, self.later(NEW_CHAIN)) for _ in range(self.draw.randint(1, 3))], len(self.ruleset.rules)
+        self.put(end, end, *rules)
 
     def remove_chain(self):
-        """Removes a chain, with its rules and those that lead to it."""
         chain = self.draw.choice(self.ruleset.chains)
         left = [rule for rule in self.ruleset.rules if chain not in (rule.split()[1], target_of(rule))]
         if left and len(self.ruleset.chains) > 1:
@@ -98,7 +93,6 @@ class Edits:
         self.put(place, place, " ".join(words).rstrip())
 
     def again(self):
-        """Puts a rule in once more, behind itself."""
         place = self.place()
         self.put(place, place, self.ruleset.rules[place])
 
@@ -110,9 +104,7 @@ def edited(large, ruleset, dead):
     if draw.random() < POLICY:
         kinds[-1] = "policy"
     edits = Edits(large, ruleset.without(draw.sample(dead, min(len(dead), kinds.count("dead")))))
-    does = {"delete": edits.delete, "insert": edits.insert, "decide": edits.decide, "swap": edits.swap, "move": edits.move, "policy": edits.policy,
-            "add chain": edits.add_chain, "remove chain": edits.remove_chain, "log": edits.log, "again": edits.again}
     for kind in kinds:
         if kind != "dead":
-            does[kind]()
+            getattr(edits, kind)()
     return edits.ruleset

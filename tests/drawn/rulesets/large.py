@@ -2,9 +2,8 @@
 
 import collections
 
-from .interfaces import Interfaces
 from .model import dead_of, walks
-from .ruleset import Ruleset
+from .ruleset import Interfaces, Ruleset
 
 SIZES = (30, 200)
 CHAINS = ("WAN", "LAN", "DMZ", "SSH", "WEB")
@@ -24,17 +23,19 @@ ENDS = {"-j ACCEPT": 26, "-j DROP": 26, "-j REJECT": 6, "-j REJECT --reject-with
 WAYS = {"-j": 9, "-g": 2}
 
 
+def port_text(ends):
+    first, last = ends
+    return f"{first}" if first == last else f"{first}:{last}"
+
+
 class Ports:
     """The ports that a ruleset's rules ask for: ranges of the ports between some bounds. For source ports there are fewer."""
 
     def __init__(self, draw):
         self.draw = draw
         alone = sorted(draw.sample(PORTS, 4))
-        self.bounds = {"source": self.bounds_of(alone[1:2]), "destination": self.bounds_of(alone)}
-
-    @staticmethod
-    def bounds_of(alone):
-        return sorted({0, 65536}.union(*({port, port + 1} for port in alone)))
+        self.bounds = {side: sorted({0, 65536}.union(*({port, port + 1} for port in ports)))
+                       for side, ports in (("source", alone[1:2]), ("destination", alone))}
 
     def pieces(self, side):
         """The ranges that no rule parts."""
@@ -45,15 +46,7 @@ class Ports:
         bounds = self.bounds[side]
         first, end = sorted(self.draw.sample(range(len(bounds)), 2))
         # Often one that no rule parts, which may be a port alone.
-        return self.text(*self.draw.choice((self.draw.choice(self.pieces(side)), (bounds[first], bounds[end] - 1))))
-
-    @staticmethod
-    def text(first, last):
-        return f"{first}" if first == last else f"{first}:{last}"
-
-    def list_of(self, side):
-        pieces = self.pieces(side)
-        return ",".join(self.text(*piece) for piece in sorted(self.draw.sample(pieces, self.draw.randint(1, min(3, len(pieces) - 1)))))
+        return port_text(self.draw.choice((self.draw.choice(self.pieces(side)), (bounds[first], bounds[end] - 1))))
 
     def one_each(self, side):
         """A port of each range that no rule parts: one of its ends."""
@@ -80,11 +73,12 @@ class Large:
             words.append(f"-m tcp {self.maybe_not()}{self.draw.choice(FLAG_OPTIONS)}")
         if lot > 0.55:
             option, side = self.draw.choice((("--ports", "source"), ("--sports", "source"), ("--dports", "destination"), ("--dports", "destination")))
-            words.append(f"-m multiport {self.maybe_not()}{option} {self.ports.list_of(side)}")
+            pieces, inverted = self.ports.pieces(side), self.maybe_not()
+            listed = sorted(self.draw.sample(pieces, self.draw.randint(1, min(3, len(pieces) - 1))))
+            words.append(f"-m multiport {inverted}{option} {','.join(map(port_text, listed))}")
         return words
 
     def matching(self, kind):
-        """What a rule asks of the transport header."""
         if kind in ("tcp", "udp"):
             return self.headed(kind)
         if kind == "icmp":

@@ -15,12 +15,10 @@ Walk = collections.namedtuple("Walk", "trail verdict by")
 
 
 def packets_of(lines):
-    """The packets that lines describe."""
     return [packet_of(words_of(line.encode())[1:]) for line in lines]
 
 
 def table_of(ruleset):
-    """The table that a ruleset's file leaves."""
     table, said, _ = loaded(ruleset.text().encode())
     if said:
         raise ValueError(f"the model refuses a line: {said.decode()}")
@@ -28,7 +26,6 @@ def table_of(ruleset):
 
 
 def walks(ruleset, packets):
-    """The walks of packets through a ruleset."""
     table, found = table_of(ruleset), []
     for packet in packets:
         steps, end = walk(table, packet)
@@ -39,7 +36,6 @@ def walks(ruleset, packets):
 
 
 def reply(ruleset, line):
-    """The reply of a session to the line of a packet."""
     return whole(Session(table_of(ruleset)).line(line.encode())).decode()
 
 
@@ -49,10 +45,7 @@ def verdict_in(said):
 
 
 def matched(ruleset, rule, packets):
-    """Of each packet whether a rule of a ruleset matches it."""
-    words = rule.split()[2:]
-    if words[-2:-1] in (["-j"], ["-g"]):
-        words = words[:-2]
+    words = re.sub(r" -[jg] \S+$", "", rule).split()[2:]
     alone, = table_of(ruleset._replace(chains=[], rules=[" ".join(["-A INPUT", *words])])).rules(b"INPUT")
     return [matches(alone, packet) for packet in packets]
 

@@ -1,9 +1,14 @@
-"""A ruleset: the policy of INPUT, the user chains, and the rules."""
+"""A ruleset: the policy of INPUT, the user chains, and the rules; which rules only one of two has; and the names of interfaces that its rules ask
+for, and those that packets have."""
 
 import collections
+import itertools
 import re
 
 from tests.shared.numbering import numbered
+
+# The bytes of interfaces' names.
+LEGAL = "".join(chr(byte) for byte in range(33, 127) if chr(byte) not in '/"\\\'#+!')
 
 
 def target_of(rule):
@@ -14,11 +19,10 @@ def target_of(rule):
 
 
 def verdict_of(rule):
-    """The verdict of a rule that decides."""
     target = re.search(r"-j (ACCEPT|DROP|REJECT)(?: --reject-with (\S+))?$", rule)
-    if not target:
-        return None
-    return f"REJECT {target[2] or 'icmp-port-unreachable'}" if target[1] == "REJECT" else target[1]
+    if target and target[1] == "REJECT":
+        return f"REJECT {target[2] or 'icmp-port-unreachable'}"
+    return target and target[1]
 
 
 class Ruleset(collections.namedtuple("Ruleset", "policy chains rules")):
@@ -26,7 +30,6 @@ class Ruleset(collections.namedtuple("Ruleset", "policy chains rules")):
     to later ones."""
 
     def text(self):
-        """The file that is restored."""
         lines = ["*filter", f":INPUT {self.policy} [0:0]", ":FORWARD ACCEPT [0:0]", ":OUTPUT ACCEPT [0:0]"]
         lines += [f":{chain} - [0:0]" for chain in self.chains]
         return "".join(f"{line}\n" for line in (*lines, *self.rules, "COMMIT"))
@@ -36,7 +39,6 @@ class Ruleset(collections.namedtuple("Ruleset", "policy chains rules")):
         return {f"{chain} {number}": rule for chain, number, rule in numbered(self.rules)}
 
     def without(self, names):
-        """The ruleset without the rules of these names."""
         return self._replace(rules=[rule for name, rule in self.named().items() if name not in names])
 
     def leading_to(self, chain, without=()):
@@ -45,3 +47,30 @@ class Ruleset(collections.namedtuple("Ruleset", "policy chains rules")):
         while more := {start for start, end in ways if end in leading} - leading:
             leading |= more
         return leading
+
+
+def left(ruleset, gone):
+    """The rules of each chain in turn, without some of them."""
+    names = ruleset.named()
+    return [[rule for name, rule in names.items() if name.split()[0] == chain and name not in gone] for chain in ("INPUT", *ruleset.chains)]
+
+
+def ways(old, new, count):
+    """The ways to take so many rules out of two small rulesets with the same chains that both are left with the same, as the names of those of each."""
+    for gone in range(count + 1):
+        pairs = itertools.product(itertools.combinations(old.named(), gone), itertools.combinations(new.named(), count - gone))
+        yield from ((went, came) for went, came in pairs if left(old, went) == left(new, came))
+
+
+class Interfaces:
+    """`asked` are a name and a beginning of it; `names` those of packets, which stand for all others."""
+
+    def __init__(self, draw):
+        length = draw.choice((1, 2, 4, 14, 15, 15))
+        name = "".join(draw.choice(LEGAL) for _ in range(length))
+        other = ("a" if name[0] != "a" else "b") + "".join(draw.choice(LEGAL) for _ in range(draw.randrange(15)))
+        stem = name[: draw.randint(1, length - 1)] if length > 1 else name
+        # An interface that the beginning stands for, other than the name: the stem itself where it is shorter, else a longer name.
+        longer = stem if stem != name else (name + "x")[:15]
+        self.names = sorted({name, other, longer})
+        self.asked = [name, stem + "+" if len(stem) < 15 else stem]

@@ -1,7 +1,6 @@
 """Rulesets of INPUT and one user chain."""
 
-from .interfaces import Interfaces
-from .ruleset import Ruleset
+from .ruleset import Interfaces, Ruleset
 
 # The packets of a field: the value that is written for each, and the one that asks `reach` for all that it stands for.
 SOURCES = {"10.0.0.1": "10.0.0.0/8", "192.0.2.1": "128.0.0.0/1"}
@@ -18,34 +17,32 @@ class Small:
         self.draw = draw
         self.interfaces = Interfaces(draw)
 
-    def port_list(self):
-        return ",".join(str(port) for port in sorted(self.draw.sample(range(1, OTHERS), self.draw.randint(1, 3))))
+    def maybe_not(self):
+        return self.draw.choice(("", "! "))
 
     def matching(self):
-        """What a rule asks of the transport header."""
         kind = self.draw.random()
         if kind < 0.2:
             return []
         if kind < 0.3:
             return ["-p icmp", *(["-m icmp --icmp-type 8"] if self.draw.random() < 0.7 else [])]
         if kind < 0.45:
-            return ["-p tcp", *([f"-m tcp {self.draw.choice(('', '! '))}--syn"] if self.draw.random() < 0.7 else [])]
+            return ["-p tcp", *([f"-m tcp {self.maybe_not()}--syn"] if self.draw.random() < 0.7 else [])]
         words = ["-p udp"]
         for _ in range(self.draw.choice((0, 1, 1, 2))):
-            ports = self.draw.choice(("--ports", "--ports", "--sports", "--dports"))
-            words.append(f"-m multiport {self.draw.choice(('', '! '))}{ports} {self.port_list()}")
+            option, inverted = self.draw.choice(("--ports", "--ports", "--sports", "--dports")), self.maybe_not()
+            ports = sorted(self.draw.sample(range(1, OTHERS), self.draw.randint(1, 3)))
+            words.append(f"-m multiport {inverted}{option} {','.join(map(str, ports))}")
         return words
 
     def rule(self, chain, targets):
         words = [f"-A {chain}"]
         if self.draw.random() < 0.3:
-            words.append(self.draw.choice(("", "! ")) + "-s 10.0.0.0/8")
+            words.append(self.maybe_not() + "-s 10.0.0.0/8")
         if self.draw.random() < 0.3:
-            words.append(self.draw.choice(("", "! ")) + "-i " + self.draw.choice(self.interfaces.asked))
-        if self.draw.random() < 0.1:
-            words.append(self.draw.choice(("", "! ")) + "-f")
-            return " ".join([*words, self.draw.choice(targets)]).rstrip()
-        return " ".join([*words, *self.matching(), self.draw.choice(targets)]).rstrip()
+            words.append(self.maybe_not() + "-i " + self.draw.choice(self.interfaces.asked))
+        words += [self.maybe_not() + "-f"] if self.draw.random() < 0.1 else self.matching()
+        return " ".join([*words, self.draw.choice(targets)]).rstrip()
 
     def ruleset(self):
         ends = ("-j ACCEPT", "-j DROP", "-j REJECT", "-j RETURN", "-j LOG", "")

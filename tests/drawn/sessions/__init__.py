@@ -1,7 +1,6 @@
 """Sessions drawn at random, for tests/answers/compare: their parts, from single values up to whole inputs.
 
-    spelled    words spelled as lines, with and without quotes
-    values     good and bad values of options and packet keys: few of each, so that they meet
+    values     good and bad values of options and packet keys: few of each, so that they meet; words spelled as lines, with and without quotes
     rules      the words of rules
     aims       what a packet has that is aimed at a rule
     packets    packet lines

@@ -32,10 +32,9 @@ def host_range(key):
 
 def interface(key):
     def aim(said, dice):
-        if not said[0].endswith(b"+"):
-            return {key: dice.choice((said[0], said[0], (said[0] + b"0")[:15]))}
-        begun = said[0][:-1]
-        return {key: dice.choice((begun + b"7", begun + b"+", begun or b"x", begun[:-1] or b"x"))[:15]}
+        begun = said[0].removesuffix(b"+")
+        beside = (begun, begun, begun + b"0") if begun == said[0] else (begun + b"7", begun + b"+", begun or b"x", begun[:-1] or b"x")
+        return {key: dice.choice(beside)[:15]}
 
     return aim
 
@@ -64,17 +63,13 @@ def flags(said, dice):
     return {b"flags": said[1] if dice.chance(0.7) else said[1] + b"," + dice.choice(values.FLAGS)}
 
 
-def time_to_live(said, dice):
-    return {b"ttl": b"%d" % beside(int(said[0]), 255, dice)}
-
-
 # What a packet has that is aimed at an option, by the option's values as they are listed. Others are passed over.
 AIMS = {
     b"-s": address(b"src"), b"-d": address(b"dst"), b"-i": interface(b"in"), b"-o": interface(b"out"),
     b"-p": lambda said, dice: {b"proto": said[0]}, b"-f": lambda said, dice: {b"frag": b"1"}, b"--sport": ports(b"sport"),
     b"--dport": ports(b"dport"), b"--tcp-flags": flags, b"--icmp-type": icmp_type, b"--sports": ports(b"sport"), b"--dports": ports(b"dport"),
     b"--ports": ports(b"sport", b"dport"), b"--src-range": host_range(b"src"), b"--dst-range": host_range(b"dst"), b"--ctstate": states,
-    b"--state": states, b"--ttl-eq": time_to_live, b"--ttl-gt": time_to_live, b"--ttl-lt": time_to_live,
+    b"--state": states, **dict.fromkeys((b"--ttl-eq", b"--ttl-gt", b"--ttl-lt"), lambda said, dice: {b"ttl": b"%d" % beside(int(said[0]), 255, dice)}),
 }
 
 

@@ -1,6 +1,8 @@
 """Commands, steered by the table that the model has come to: most edits find their chain and their rule."""
 
 from tests.model import printing
+from tests.model.commands import COMMANDS
+from tests.model.values import BUILT_IN
 from tests.model.words import words_of
 
 from . import values
@@ -10,10 +12,8 @@ KINDS = {"-A": 30, "-I": 13, "-R": 8, "-D": 11, "-C": 7, "-F": 3, "-N": 8, "-X":
 # Where packets are asked; and in a restore, where a fault ends all.
 LIGHT_KINDS = {"-A": 45, "-I": 12, "-R": 5, "-D": 5, "-C": 3, "-F": 2, "-N": 10, "-X": 2, "-P": 5, "-E": 4, "-S": 1, "none": 0.2}
 SECTION_KINDS = {"-A": 60, "-I": 10, "-R": 2, "-D": 2, "-C": 1, "-F": 2, "-N": 6, "-X": 0.5, "-P": 4, "-E": 1, "-S": 0.05, "none": 0.05}
-LONG = {"-A": b"--append", "-I": b"--insert", "-R": b"--replace", "-D": b"--delete", "-C": b"--check", "-F": b"--flush",
-        "-N": b"--new-chain", "-X": b"--delete-chain", "-P": b"--policy", "-E": b"--rename-chain", "-S": b"--list-rules"}
-NO_COMMANDS = ((), (b"-L",), (b"-Z",), (b"--add", b"a"), (b"-a", b"INPUT"), (b"A", b"INPUT"),
-               (b"-s", b"1.1.1.1", b"-A", b"INPUT"), (b"!", b"-F"),
+LONG = {short: name.encode() for short, name in (names.split() for names, _ in COMMANDS)}
+NO_COMMANDS = ((), (b"-L",), (b"-Z",), (b"--add", b"a"), (b"-a", b"INPUT"), (b"A", b"INPUT"), (b"-s", b"1.1.1.1", b"-A", b"INPUT"), (b"!", b"-F"),
                (b"COMMIT",), (b"",), (b"-v", b"-S"))
 HEADS = ((b"-t", b"nat"), (b"--table", b"mangle"), (b"-t",), (b"-t", b"filter", b"-t", b"filter"), (b"-t", b"filter", b"-t"),
          (b"-t", b"filter", b"--table", b"nat"), (b"-t", b"nat", b"-t"), (b"-t", b"Filter"), (b"-t", b""))
@@ -63,14 +63,13 @@ class CommandDraw:
     def rule(self, chain):
         """The words of a rule. Its target is mostly a chain that stands after this one, so that most don't make a loop."""
         there = self.table.user_chains()
-        after = [name for name in there if name > chain or chain in values.BUILT_IN]
+        after = [name for name in there if name > chain or chain in BUILT_IN]
         targets = there if self.dice.chance(0.05 + self.wrong / 3) else after
-        draw = RuleDraw(self.dice, targets, self.wrong, self.light)
-        words = draw.rule()
+        words = RuleDraw(self.dice, targets, self.wrong, self.light).rule()
         other = {b"INPUT": (b"-o", b"--out-interface"), b"OUTPUT": (b"-i", b"--in-interface")}.get(chain)
         if other and self.dice.chance(0.01):
             # (a rule that is refused for its interface, and perhaps for its target)
-            return [other[0], b"lo", b"-j", self.dice.choice(values.BUILT_IN + values.CHAINS)]
+            return [other[0], b"lo", b"-j", self.dice.choice(BUILT_IN + values.CHAINS)]
         return words if other is None or self.dice.chance(0.15 + self.wrong / 2) else without(words, other)
 
     def rule_there(self, chain):
@@ -86,14 +85,10 @@ class CommandDraw:
         return words
 
     def words(self, kind):
-        """What follows the name of a command."""
         dice, chain = self.dice, self.chain(has_rules=kind in ("-R", "-D", "-C"))
-        if kind == "-A":
-            return [chain, *self.rule(chain)]
-        if kind == "-I":
-            return [chain, *([self.number(chain, 1)] if dice.chance(0.7) else []), *self.rule(chain)]
-        if kind == "-R":
-            return [chain, self.number(chain), *self.rule(chain)]
+        if kind in ("-A", "-I", "-R"):
+            has_number = kind == "-R" or kind == "-I" and dice.chance(0.7)
+            return [chain, *([self.number(chain, more=kind == "-I")] if has_number else []), *self.rule(chain)]
         if kind == "-D":
             return [chain, self.number(chain)] if dice.chance(0.5) else [chain, *self.rule_there(chain)]
         if kind == "-C":
@@ -103,18 +98,16 @@ class CommandDraw:
         if kind == "-N":
             return [self.new_name()]
         if kind == "-X":
-            return [] if dice.chance(0.2) else [self.empty_chain()]
+            if dice.chance(0.2):
+                return []
+            empty = [name for name in self.table.user_chains() if not self.table.chains[name]]
+            if empty and dice.chance(0.6):
+                return [dice.choice(empty)]
+            return [self.user_chain() if dice.chance(0.85) else self.chain()]
         if kind == "-P":
             policy = dice.choice((b"REJECT", b"accept", b"", b"-", b"RETURN")) if self.bad(0.2) else dice.choice((b"ACCEPT", b"DROP"))
-            return [chain if dice.chance(0.06 + self.wrong / 4) else dice.choice(values.BUILT_IN), policy]
+            return [chain if dice.chance(0.06 + self.wrong / 4) else dice.choice(BUILT_IN), policy]
         return [self.chain() if dice.chance(0.1) else self.user_chain(), self.new_name()]
-
-    def empty_chain(self):
-        """An empty chain, if there is one and luck has it."""
-        empty = [name for name in self.table.user_chains() if not self.table.chains[name]]
-        if empty and self.dice.chance(0.6):
-            return self.dice.choice(empty)
-        return self.user_chain() if self.dice.chance(0.85) else self.chain()
 
     def command(self, kinds):
         """The words of a command, with what may stand before it."""
@@ -136,13 +129,12 @@ class CommandDraw:
 
 def without(words, names):
     """The words without the option of these names, which has one value."""
-    kept, at = [], 0
-    while at < len(words):
-        if words[at] in names:
-            at += 2
-            if kept and kept[-1] == b"!":
-                kept.pop()
-        else:
-            kept.append(words[at])
-            at += 1
+    kept, left = [], iter(words)
+    for word in left:
+        if word not in names:
+            kept.append(word)
+            continue
+        next(left, None)
+        if kept[-1:] == [b"!"]:
+            kept.pop()
     return kept

@@ -1,4 +1,5 @@
-"""Whole sessions and restores, drawn line by line, each line with the model's reply; and files that are loaded before them."""
+"""Whole sessions and restores, drawn line by line, each line with the model's reply; files that are loaded before them; and inputs that come to the
+limits of the table, which no short session does."""
 
 import collections
 import re
@@ -6,6 +7,7 @@ import re
 from tests.drawn.lots import Lots
 from tests.model.restore import FILTER, OUTSIDE, Restore
 from tests.model.session import Session, answer, loaded, whole
+from tests.model.values import BUILT_IN
 from tests.model.words import lines_of
 
 from . import values
@@ -13,7 +15,7 @@ from .aims import aimed
 from .commands import KINDS, LIGHT_KINDS, CommandDraw
 from .packets import packet
 from .sections import listed_lines, restore_line
-from .spelled import spelled
+from .values import spelled
 
 FAULT = re.compile(rb"line [0-9]+: ([A-Z][0-9]+) .*")
 # What is drawn, by its weight: how often each kind of line comes in a session, how often something is made bad, and whether rules
@@ -47,28 +49,24 @@ class Talk:
         self.lines, self.replies, self.counts, self.walks = [], [], collections.Counter(), 0
 
     def say(self, line):
-        """One more line."""
         self.lines.append(line)
         self.take(self.run.line(line))
 
     def take(self, replies):
         self.replies += replies
-        for code in [FAULT.fullmatch(reply) for reply in replies]:
-            if code:
-                self.counts[code.group(1).decode()] += 1
+        self.counts.update(code[1].decode() for code in map(FAULT.fullmatch, replies) if code)
         if self.run.walks[self.walks :]:
             self.count_walk(*self.run.walks[-1])
         self.walks = len(self.run.walks)
 
     def count_walk(self, trail, verdict):
-        """Counts a verdict, and the steps by which the walk came to it."""
         verdict = verdict.decode()
         self.counts["REJECT by rule" if verdict.startswith("REJECT") else verdict] += 1
         steps = set() if trail else {"no rule"}
         for (chain, number), after in zip(trail, [*trail[1:], (None, 0)]):
             how, name = self.run.table.chains[chain][number - 1].target or (None, b"no target")
             if name in (b"RETURN", b"LOG", b"no target"):
-                steps.add(name.decode() + (" in a built-in chain" if name == b"RETURN" and chain in values.BUILT_IN else ""))
+                steps.add(name.decode() + (" in a built-in chain" if name == b"RETURN" and chain in BUILT_IN else ""))
                 if name != b"RETURN" and after[0] not in (chain, None):
                     steps.add("end of a chain")
             elif name not in (b"ACCEPT", b"DROP", b"REJECT"):
@@ -84,23 +82,13 @@ class Talk:
     def packet(self):
         """A packet, mostly one that is aimed at a rule."""
         table, hook, aim = self.run.table, None, {}
-        chains = values.BUILT_IN if self.dice.chance(0.8) else table.user_chains()
+        chains = BUILT_IN if self.dice.chance(0.8) else table.user_chains()
         filled = [chain for chain in chains if table.chains[chain]]
         if filled and self.dice.chance(0.85):
             chain = self.dice.choice(filled)
-            hook = chain if chain in values.BUILT_IN else None
+            hook = chain if chain in BUILT_IN else None
             aim = aimed(self.dice.choice(table.chains[chain]), self.dice)
         self.say(spelled(packet(self.dice, self.wrong, hook, aim), self.dice))
-
-    def save(self):
-        self.say(b"iptables-save")
-
-    def chain_lines(self):
-        draw = CommandDraw(self.dice, self.run.table, self.wrong)
-        self.say(spelled([b"lines", draw.chain()], self.dice))
-
-    def other(self):
-        self.say(self.dice.choice(OTHER_LINES))
 
     def restore(self, has_end=True):
         """A restore with its end line, if it has one."""
@@ -129,13 +117,11 @@ class Talk:
             if self.run.has_failed and dice.chance(0.4):
                 line = dice.choice(OTHER_LINES)
             if line is None or left == 1 and dice.chance(0.9):
-                return self.close()
+                # The open section ends, most of the time.
+                if self.run.restore and self.run.restore.where != OUTSIDE and not dice.chance(0.1):
+                    self.say(b"COMMIT")
+                return
             self.say(line)
-
-    def close(self):
-        """Ends the open section, most of the time."""
-        if self.run.restore and self.run.restore.where != "outside of sections" and not self.dice.chance(0.1):
-            self.say(b"COMMIT")
 
     def session(self):
         """A session: first some chains and rules, then lines of all kinds."""
@@ -144,8 +130,9 @@ class Talk:
             self.say(b"iptables -N " + name)
         for _ in range(dice.randint(0, 40) if theme.light else dice.randint(0, 8)):
             self.command()
-        draws = {"command": self.command, "packet": self.packet, "save": self.save, "lines": self.chain_lines, "other": self.other,
-                 "restore": self.restore}
+        draws = {"command": self.command, "packet": self.packet, "save": lambda: self.say(b"iptables-save"),
+                 "lines": lambda: self.say(spelled([b"lines", CommandDraw(dice, self.run.table, self.wrong).chain()], dice)),
+                 "other": lambda: self.say(dice.choice(OTHER_LINES)), "restore": self.restore}
         while len(self.lines) < theme.lines:
             draws[dice.weighted(theme.kinds)]()
         if dice.chance(0.25):
@@ -189,12 +176,9 @@ def drawn_file(dice):
 
 
 def drawn_input(seed):
-    """The input of a seed."""
     dice = Lots(seed)
     theme = dice.weighted({name: each.weight for name, each in THEMES.items()})
-    words = ["session"]
-    if theme == "whole":
-        words = ["restore", *(word for word in ("--noflush", "--test") if dice.chance(0.3))]
+    words = ["restore", *(word for word in ("--noflush", "--test") if dice.chance(0.3))] if theme == "whole" else ["session"]
     file, table, counts = None, None, collections.Counter()
     if dice.chance(LOADED):
         # A file with a fault is mostly drawn again.
@@ -210,3 +194,58 @@ def drawn_input(seed):
     talk = Talk(dice, theme, table)
     data, due = talk.whole_restore(words, file) if theme == "whole" else talk.session()
     return Input(words, file, data, due, counts + talk.counts)
+
+
+def filled_chain(talk):
+    """A chain of 8,192 rules, and edits of it."""
+    say, dice = talk.say, talk.dice
+    rules = [b"-A INPUT -j LOG" if number % 1024 else b"-A INPUT -s 10.0.%d.%d -j DROP" % divmod(number, 256) for number in range(1, 8191)]
+    for line in (b"iptables -N a", b"iptables-restore -n <<E", b"*filter", *rules, b"COMMIT", b"E"):
+        say(line)
+    edits = (b"-A INPUT", b"-I INPUT", b"-I INPUT 8193 -j a", b"-I INPUT 8192 -s 1.1.1.1", b"-A INPUT -j a", b"-I INPUT 4000 -j RETURN")
+    others = (b"-I INPUT 8194 -j a", b"-A INPUT -o lo", b"-A INPUT -j nowhere", b"-A INPUT -g OUTPUT", b"-R INPUT 8192 -j a", b"-R INPUT 8193",
+              b"-A a -j DROP", b"-D INPUT 8192", b"-D INPUT 1")
+    for _ in range(32):
+        say(b"iptables " + dice.choice(edits))
+        if dice.chance(0.3):
+            say(b"iptables " + dice.choice(others))
+    for line in (b"iptables-restore -n <<E", b"*filter", b"-D INPUT 8192", b"-A INPUT -j DROP", b"-A INPUT -j DROP", b"COMMIT", b"E"):
+        say(line)
+
+
+def many_chains(talk):
+    """1,024 user chains, and more."""
+    say, dice = talk.say, talk.dice
+    for line in (b"iptables-restore <<E", b"*filter", *(b":k%d - [0:0]" % number for number in range(1, 1021)), b"COMMIT", b"E"):
+        say(line)
+    edits = (b"-N x%d", b"-N y%d", b"-N k%d", b"-X k%d", b"-E k%d z", b"-E z k%d", b"-A k%d -j k1020", b"-A INPUT -j k%d")
+    for number in range(80):
+        say(b"iptables " + dice.choice(edits[:2] if number < 24 else edits) % dice.randint(1, 1020))
+    for line in (b"iptables-restore -n <<E", b"*filter", b":k7 -", b":one -", b":two -", b":three -", b":four -", b":five -", b"COMMIT", b"E"):
+        say(line)
+
+
+def long_walks(talk):
+    """Walks with as many rules as one has at most, which are 65,536, and with some more or less."""
+    say, dice = talk.say, talk.dice
+    for line in (b"iptables-restore <<E", b"*filter", b":a -", *[b"-A a"] * 256, *[b"-A INPUT -j a"] * 255, b"COMMIT", b"E"):
+        say(line)
+    # Each of the 255 jumps matches, and the 256 rules behind it: 65,535 rules.
+    packet = b"packet INPUT src=1.2.3.4 dst=1.2.3.4 proto=47"
+    for edit in (b"# 65,535", b"iptables -A INPUT -j ACCEPT", b"iptables -I INPUT 1", b"iptables -D INPUT 1", b"iptables -R INPUT 256", b"iptables -A INPUT -j DROP"):
+        say(edit)
+        say(packet)
+    edits = (b"-A a", b"-D a 1", b"-I INPUT 1", b"-D INPUT 1", b"-A INPUT -j ACCEPT", b"-A INPUT -j RETURN", b"-P INPUT DROP")
+    for _ in range(4):
+        say(b"iptables " + dice.choice(edits))
+        say(packet)
+
+
+LIMITS = {draw.__name__: draw for draw in (filled_chain, many_chains, long_walks)}
+
+
+def limit_input(name):
+    """The input of a name, whose last word is one of these, as `drawn_input` gives it."""
+    talk = Talk(Lots(name), "edits")
+    LIMITS[name.split()[-1]](talk)
+    return Input(["session"], None, talk.data(), (whole(talk.replies), b"", talk.run.status), talk.counts)

@@ -1,7 +1,7 @@
 """Packet lines."""
 
 from . import values
-from .spelled import cased
+from .values import cased
 
 HOOKS = {b"INPUT": 6, b"FORWARD": 3, b"OUTPUT": 2}
 PACKET_PROTOCOLS = (b"tcp",) * 8 + (b"udp",) * 5 + (b"icmp",) * 4 + values.PROTOCOLS
@@ -21,9 +21,7 @@ BAD_HOOKS = (b"input", b"PREROUTING", b"", b"a", b"src=1.1.1.1", b"-A")
 
 def parts_of(protocol, dice):
     """What a first fragment of a protocol carries."""
-    given = {}
-    if protocol in PORTED:
-        given = {b"sport": dice.choice(values.PORTS), b"dport": dice.choice(values.PORTS)}
+    given = {key: dice.choice(values.PORTS) for key in (b"sport", b"dport") if protocol in PORTED}
     if protocol in (b"tcp", b"6") and dice.chance(0.6):
         given[b"flags"] = values.names_of(values.FLAGS)(dice)
     if protocol in (b"icmp", b"1"):
@@ -35,10 +33,9 @@ def given_by(hook, dice, aim):
     """A good packet's keys with their values: those of the aim that it carries, and others."""
     protocol = aim.get(b"proto") or dice.choice(PACKET_PROTOCOLS)
     given = {b"src": dice.choice(values.HOSTS), b"dst": dice.choice(values.HOSTS), b"proto": protocol}
-    if hook != b"OUTPUT" and dice.chance(0.6):
-        given[b"in"] = dice.choice(values.NAMES)
-    if hook != b"INPUT" and dice.chance(0.6):
-        given[b"out"] = dice.choice(values.NAMES)
+    for key, lacking in ((b"in", b"OUTPUT"), (b"out", b"INPUT")):
+        if hook != lacking and dice.chance(0.6):
+            given[key] = dice.choice(values.NAMES)
     frag = aim.get(b"frag") or dice.weighted({b"": 9, b"0": 1, b"1": 1})
     if frag:
         given[b"frag"] = frag
@@ -59,8 +56,7 @@ def packet(dice, wrong, hook, aim):
     """The words of a packet line, which has the keys of the aim."""
     hook = hook or dice.weighted(HOOKS)
     words = [key + b"=" + value for key, value in given_by(hook, dice, aim).items()]
-    if dice.chance(0.4):
-        words = dice.shuffled(words)
+    words = dice.shuffled(words) if dice.chance(0.4) else words
     while dice.chance(wrong):
         what = dice.weighted({"out": 5, "bad": 6, "unknown": 3, "twice": 2, "more": 6, "hook": 1})
         at = dice.randrange(len(words) + 1)

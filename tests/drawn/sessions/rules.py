@@ -1,43 +1,45 @@
 """The words of rules."""
 
+from tests.model.options import BY_NAME
+from tests.model.values import BUILT_IN
+
 from . import values
 
-# The options of a rule, of matches and of targets: the names, the kinds of values, and how often an option is drawn.
-OWN = (
-    ((b"-s", b"--source", b"--src"), ("address",), 5),
-    ((b"-d", b"--destination", b"--dst"), ("address",), 4),
-    ((b"-i", b"--in-interface"), ("interface",), 3),
-    ((b"-o", b"--out-interface"), ("interface",), 2),
-    ((b"-f", b"--fragment"), (), 2),
-)
+
+def options_of(*rows):
+    """Options, each by its first name, the kinds of its values, and how often it is drawn; with all of its names, as the model has them."""
+    return tuple((tuple(BY_NAME[name.encode()].names), tuple(kinds), int(weight)) for name, *kinds, weight in map(str.split, rows))
+
+
+# The options of a rule, of matches and of targets.
+OWN = options_of("-s address 5", "-d address 4", "-i interface 3", "-o interface 2", "-f 2")
 PROTOCOL_NAMES = (b"-p", b"--protocol")
+PORTS = options_of("--sport port 3", "--dport port 5")
 MATCHES = {
-    b"tcp": (((b"--sport", b"--source-port"), ("port",), 3), ((b"--dport", b"--destination-port"), ("port",), 5),
-             ((b"--tcp-flags",), ("flags", "flags"), 3), ((b"--syn",), (), 2)),
-    b"udp": (((b"--sport", b"--source-port"), ("port",), 3), ((b"--dport", b"--destination-port"), ("port",), 5)),
-    b"icmp": (((b"--icmp-type",), ("icmp type",), 1),),
-    b"multiport": (((b"--sports", b"--source-ports"), ("ports",), 2), ((b"--dports", b"--destination-ports"), ("ports",), 2),
-                   ((b"--ports",), ("ports",), 3)),
-    b"iprange": (((b"--src-range",), ("range",), 1), ((b"--dst-range",), ("range",), 1)),
-    b"conntrack": (((b"--ctstate",), ("states",), 1),),
-    b"state": (((b"--state",), ("plain states",), 1),),
-    b"ttl": (((b"--ttl-eq",), ("time",), 3), ((b"--ttl-gt",), ("time",), 2), ((b"--ttl-lt",), ("time",), 2)),
-    b"comment": (((b"--comment",), ("comment",), 1),),
+    b"tcp": (*PORTS, *options_of("--tcp-flags flags flags 3", "--syn 2")),
+    b"udp": PORTS,
+    b"icmp": options_of("--icmp-type icmp-type 1"),
+    b"multiport": options_of("--sports ports 2", "--dports ports 2", "--ports ports 3"),
+    b"iprange": options_of("--src-range range 1", "--dst-range range 1"),
+    b"conntrack": options_of("--ctstate states 1"),
+    b"state": options_of("--state plain-states 1"),
+    b"ttl": options_of("--ttl-eq time 3", "--ttl-gt time 2", "--ttl-lt time 2"),
+    b"comment": options_of("--comment comment 1"),
 }
 MATCH_WEIGHTS = {b"tcp": 8, b"udp": 4, b"icmp": 4, b"multiport": 6, b"iprange": 2, b"conntrack": 3, b"state": 2, b"ttl": 4, b"comment": 2}
 NEEDED = {b"tcp": (b"tcp", b"6"), b"udp": (b"udp", b"17"), b"icmp": (b"icmp", b"1"),
           b"multiport": (b"tcp", b"udp", b"sctp", b"dccp", b"udplite", b"6", b"33")}
 # Where `!` may not stand.
 NOT_INVERTED = (b"--ttl-gt", b"--ttl-lt", b"--comment")
-LOG_OPTIONS = (((b"--log-prefix",), ("prefix",), 3), ((b"--log-level",), ("level",), 3), ((b"--log-tcp-sequence",), (), 1),
-               ((b"--log-tcp-options",), (), 1), ((b"--log-ip-options",), (), 1), ((b"--log-uid",), (), 1))
+LOG_OPTIONS = options_of("--log-prefix prefix 3", "--log-level level 3", "--log-tcp-sequence 1", "--log-tcp-options 1", "--log-ip-options 1",
+                         "--log-uid 1")
 TARGETS = {"chain": 30, "goto": 14, b"RETURN": 12, b"ACCEPT": 14, b"DROP": 14, b"REJECT": 8, b"LOG": 6, "none": 6}
 LIGHT_TARGETS = {"chain": 34, "goto": 8, b"RETURN": 9, b"ACCEPT": 7, b"DROP": 7, b"REJECT": 6, b"LOG": 12, "none": 14}
-# What is done to make a rule bad.
+# What is done to make a rule bad, and what may stand behind many matches.
+MORE = ([], [b"-m", b"state"], [b"--syn"], [b"-m", b"x"])
 WRONGS = {"out": 3, "end": 3, "option": 8, "unknown": 2, "command": 2, "!": 3, "twice": 3, "many": 2, "match": 2, "target": 2, "bare": 2}
-OPTIONS = [*OWN, *(option for match in MATCHES.values() for option in match), *LOG_OPTIONS, ((b"--reject-with",), ("reject type",), 1),
-           ((b"-m", b"--match"), ("match",), 1), ((b"-j", b"--jump"), ("chain",), 1), ((b"-g", b"--goto"), ("chain",), 1),
-           (PROTOCOL_NAMES, ("protocol",), 1)]
+OPTIONS = [*OWN, *(option for match in MATCHES.values() for option in match), *LOG_OPTIONS,
+           *options_of("--reject-with reject-type 1", "-m match 1", "-j chain 1", "-g chain 1", "-p protocol 1")]
 UNKNOWN = (b"--limit", b"-v", b"--dport=22", b"-sx", b"--sy", b"x", b"--DPORT", b"-t", b"-", b"--fragments", b"--mac-source", b"-L", b"",
            b"INPUT", b"--tcp-option", b"-S")
 COMMANDS = (b"-A", b"-F", b"--flush", b"-S", b"-D", b"--list-rules", b"-X", b"-P", b"-E", b"--new-chain", b"-C", b"-I", b"-R", b"-N")
@@ -63,9 +65,8 @@ class RuleDraw:
 
     def some_of(self, options, most):
         """Different ones of some options, in any order."""
-        count = self.dice.randint(1, most)
         drawn = {}
-        for _ in range(count):
+        for _ in range(self.dice.randint(1, most)):
             names, kinds, _ = self.dice.weighted({each: each[2] for each in options})
             drawn[names] = kinds
         return list(drawn.items())
@@ -82,24 +83,21 @@ class RuleDraw:
         begun = name not in (b"tcp", b"udp", b"icmp") or not words or self.dice.chance(0.5)
         return [self.dice.choice((b"-m", b"-m", b"--match")), name, *words] if begun else words
 
-    def named_chain(self):
-        """A chain that there is, most of the time."""
-        if self.chains and not self.dice.chance(self.wrong / 3):
-            return self.dice.choice(self.chains)
-        return self.dice.choice(values.BUILT_IN) if self.dice.chance(0.2) else self.value("chain")
-
     def target(self):
         kind = self.dice.weighted(LIGHT_TARGETS if self.light else TARGETS)
         jump, goto = self.dice.choice((b"-j", b"-j", b"--jump")), self.dice.choice((b"-g", b"-g", b"--goto"))
         if kind in ("chain", "goto") and not self.chains and not self.dice.chance(0.1 + self.wrong):
             kind = self.dice.choice((b"ACCEPT", b"DROP", b"RETURN"))
         if kind in ("chain", "goto"):
-            return [jump if kind == "chain" else goto, self.named_chain()]
+            # Mostly a chain that there is.
+            is_there = self.chains and not self.dice.chance(self.wrong / 3)
+            name = self.dice.choice(self.chains) if is_there else self.dice.choice(BUILT_IN) if self.dice.chance(0.2) else self.value("chain")
+            return [jump if kind == "chain" else goto, name]
         if kind == "none":
             return []
         words = [jump, kind]
         if kind == b"REJECT" and self.dice.chance(0.6):
-            words += [b"--reject-with", self.value("reject type")]
+            words += [b"--reject-with", self.value("reject-type")]
         if kind == b"LOG" and self.dice.chance(0.7):
             for names, kinds in self.some_of(LOG_OPTIONS, 4):
                 words += self.option(names, kinds, may_invert=False)
@@ -107,9 +105,9 @@ class RuleDraw:
 
     def parts(self):
         """The parts of a rule, those of a protocol first or, now and then, last."""
-        dice, parts = self.dice, []
-        for names, kinds in self.some_of(OWN, 1 if self.light else 2) if dice.chance(0.3 if self.light else 0.6) else ():
-            parts.append(self.option(names, kinds))
+        dice = self.dice
+        own = self.some_of(OWN, 1 if self.light else 2) if dice.chance(0.3 if self.light else 0.6) else ()
+        parts = [self.option(names, kinds) for names, kinds in own]
         counts = {0: 8, 1: 2} if self.light else {0: 4, 1: 6, 2: 3, 3: 1, 5: 0.3}
         drawn = [dice.weighted(MATCH_WEIGHTS) for _ in range(dice.weighted(counts))]
         needed = [protocol for match in drawn for protocol in NEEDED.get(match, ())]
@@ -125,43 +123,31 @@ class RuleDraw:
 
     def wronged(self, words):
         """The words with one of them taken out, put in or changed."""
-        dice, words = self.dice, list(words)
-        at = dice.randrange(len(words) + 1)
+        dice, at = self.dice, self.dice.randrange(len(words) + 1)
         names, kinds, _ = dice.choice(OPTIONS)
-        some = [dice.choice(names), *(self.value(kind) for kind in kinds)]
-        what = dice.weighted(WRONGS)
-        if what == "out" and words:
-            del words[min(at, len(words) - 1)]
-        elif what == "end":
-            del words[at:]
-        elif what == "option":
-            words = words + some if dice.chance(0.6) else words[:at] + some + words[at:]
-        elif what in ("unknown", "command"):
-            words.insert(at if dice.chance(0.5) else len(words), dice.choice(UNKNOWN if what == "unknown" else COMMANDS))
-        elif what == "!":
-            words.insert(at, b"!")
-        elif what == "twice":
-            words += words[: dice.randint(1, 4)]
-        elif what == "many":
-            words += [b"-m", b"comment", b"--comment", b"x"] * dice.randint(14, 17)
-            words += dice.choice(([], [b"-m", b"state"], [b"--syn"], [b"-m", b"x"]))
-        elif what == "bare":
-            words.append(dice.choice(names))
-        elif what == "match":
-            words += [b"-m", self.value("match")]
-        elif what == "target":
-            words += [dice.choice((b"-g", b"-j")), self.value("chain")]
-        return words
+        some, last = [dice.choice(names), *(self.value(kind) for kind in kinds)], min(at, len(words) - 1)
+
+        def put(place, word):
+            return [*words[:place], word, *words[place:]]
+
+        changed = {
+            "out": lambda: words[:last] + words[last + 1 :],
+            "end": lambda: words[:at],
+            "option": lambda: words + some if dice.chance(0.6) else words[:at] + some + words[at:],
+            "unknown": lambda: put(at if dice.chance(0.5) else len(words), dice.choice(UNKNOWN)),
+            "command": lambda: put(at if dice.chance(0.5) else len(words), dice.choice(COMMANDS)),
+            "!": lambda: put(at, b"!"),
+            "twice": lambda: words + words[: dice.randint(1, 4)],
+            "many": lambda: words + [b"-m", b"comment", b"--comment", b"x"] * dice.randint(14, 17) + dice.choice(MORE),
+            "bare": lambda: [*words, dice.choice(names)],
+            "match": lambda: [*words, b"-m", self.value("match")],
+            "target": lambda: [*words, dice.choice((b"-g", b"-j")), self.value("chain")],
+        }
+        return changed[dice.weighted(WRONGS)]()
 
     def rule(self):
-        """The words of a rule."""
-        parts = self.parts()
-        target = self.target()
-        if self.dice.chance(0.15):
-            parts = self.dice.shuffled([*parts, target])
-        else:
-            parts.append(target)
-        words = [word for part in parts for word in part]
+        parts = [*self.parts(), self.target()]
+        words = [word for part in (self.dice.shuffled(parts) if self.dice.chance(0.15) else parts) for word in part]
         while self.dice.chance(self.wrong):
             words = self.wronged(words)
         return words

@@ -2,10 +2,11 @@
 
 from tests.model import printing
 from tests.model.restore import FILTER, OUTSIDE
+from tests.model.values import BUILT_IN
 
 from . import values
 from .commands import SECTION_KINDS, CommandDraw
-from .spelled import spelled
+from .values import spelled
 
 COUNTERS = (b"[0:0]", b"[5:300]", b"[0007:99999999999999999999]", b"[12:900]")
 BAD_COUNTERS = (b"[0:x]", b"[0]", b"[:0]", b"0:0", b"[0:0", b"[0:0]]", b"[]", b"[-1:0]", b"[ 0:0]")
@@ -22,22 +23,16 @@ BAD_LINES = (b"*nat", b"*filter", b"* x", b'"COMMIT"', b"COMMIT x", b"commit", b
 PASSED = (b"", b"# x", b"  \t", b'# "', b" # COMMIT", b"#")
 
 
-def with_counters(line, dice, wrong):
-    if dice.chance(wrong / 10):
-        return dice.choice(BAD_COUNTERS) + b" " + line
-    return dice.choice(COUNTERS) + b" " + line if dice.chance(0.2) else line
-
-
 def chain_line(dice, restore, wrong):
     """A chain line: mostly of a name that has none in the section yet."""
-    names = [name for name in values.BUILT_IN + values.CHAINS if name not in restore.named]
+    names = [name for name in BUILT_IN + values.CHAINS if name not in restore.named]
     is_again = not names or restore.named and dice.chance(0.03 + wrong / 2)
     known = sorted(restore.named) if is_again else names
     name = dice.choice(values.BAD_CHAINS) if dice.chance(wrong / 4) else dice.choice(known)
     if dice.chance(0.2 if is_again else wrong / 2):
         policy = dice.choice((b"DROP", b"REJECT", b"x", b"", b"- -"))
     else:
-        policy = dice.choice((b"ACCEPT", b"DROP", b"-")) if name in values.BUILT_IN else b"-"
+        policy = dice.choice((b"ACCEPT", b"DROP", b"-")) if name in BUILT_IN else b"-"
     words = [b":" + name, policy]
     if dice.chance(0.8):
         words.append(dice.choice(BAD_COUNTERS) if dice.chance(wrong / 10) else dice.choice(COUNTERS))
@@ -45,13 +40,15 @@ def chain_line(dice, restore, wrong):
 
 
 def filter_line(dice, restore, wrong):
-    """A line of a filter section."""
     kind = dice.weighted({"chain": 25, "command": 60, "commit": 12, "passed": 4, "bad": 1 + wrong * 20})
     if kind == "chain":
         return chain_line(dice, restore, wrong)
     if kind == "command":
         words = CommandDraw(dice, restore.built, wrong, light=True).command(SECTION_KINDS)
-        return with_counters(spelled(words, dice), dice, wrong)
+        line = spelled(words, dice)
+        if dice.chance(wrong / 10):
+            return dice.choice(BAD_COUNTERS) + b" " + line
+        return dice.choice(COUNTERS) + b" " + line if dice.chance(0.2) else line
     if kind == "commit":
         return dice.weighted(ENDS)
     return dice.choice(PASSED if kind == "passed" else BAD_LINES)
