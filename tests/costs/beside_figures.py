@@ -6,6 +6,7 @@ A figure that is more than a tenth off fails: a cost that grew is a fault, and o
 """
 
 import os
+import pathlib
 import re
 import shutil
 import subprocess
@@ -16,7 +17,7 @@ import pytest
 from tests import ROOT
 
 pytestmark = pytest.mark.usefixtures("proved")
-FIGURES = os.path.join(ROOT, "tests", "costs", "figures")
+FIGURES = pathlib.Path(ROOT, "tests", "costs", "figures")
 RULES = 1024
 # The module that counts each program's figures, with further words; those of the second are named by these words.
 COUNTED = {"iptsim": ("tests.costs.costs", [str(RULES)]), "iptaudit": ("tests.costs.steps", [])}
@@ -41,16 +42,13 @@ def number(cell):
 
 
 def counted(name, path):
-    """The figures of a program, each with a name."""
     module, words = COUNTED[name]
     return {f"{row}: {heading}": number(cell) for row, cells in rows(module, [path, *words]) for heading, cell in cells.items()
             if number(cell) is not None and heading != "rules" and "iptables-legacy" not in row + heading}
 
 
 def stored():
-    with open(FIGURES, encoding="ascii") as file:
-        rows = [line.rstrip("\n").rpartition("\t") for line in file]
-    return {name: float(figure) for name, _, figure in rows}
+    return {name: float(figure) for name, _, figure in (line.rpartition("\t") for line in FIGURES.read_text(encoding="ascii").splitlines())}
 
 
 def program_of(name):
@@ -59,7 +57,6 @@ def program_of(name):
 
 @pytest.fixture(scope="module")
 def figures(request):
-    """The figures of both programs, as they are asked for."""
     found = {}
 
     def of_program(name):
@@ -82,10 +79,9 @@ def test_figure(name, figures):
 
 @pytest.mark.parametrize("program", [pytest.param(name, marks=pytest.mark.xdist_group(f"costs of {name}")) for name in COUNTED])
 def test_names(program, figures):
-    """Each figure that is counted is stored."""
     assert sorted(figures(program)) == sorted(name for name in stored() if program_of(name) == program)
 
 
 if __name__ == "__main__":
-    with open(FIGURES, "w", encoding="ascii") as file:
-        file.writelines(f"{name}\t{figure:g}\n" for program, path in zip(COUNTED, sys.argv[1:]) for name, figure in counted(program, os.path.abspath(path)).items())
+    found = [pair for program, path in zip(COUNTED, sys.argv[1:]) for pair in counted(program, os.path.abspath(path)).items()]
+    FIGURES.write_text("".join(f"{name}\t{figure:g}\n" for name, figure in found), encoding="ascii")

@@ -9,6 +9,7 @@ installed is said to be passed over.
 """
 
 import os
+import pathlib
 import re
 import shutil
 import subprocess
@@ -27,9 +28,8 @@ ADDED = "iptables-restore -n <<END\n*filter\n-A INPUT -s 198.51.100.7 -j DROP\nC
 
 def counted(words, given="", before=()):
     """The instructions of a run, or nothing where it can't be counted; some words may stand before the call of valgrind."""
-    with tempfile.TemporaryDirectory() as folder:
-        call = [*before, "valgrind", "--tool=callgrind", f"--callgrind-out-file={folder}/counts", *words]
-        run = subprocess.run(call, input=given.encode(), capture_output=True)
+    call = [*before, "valgrind", "--tool=callgrind", "--callgrind-out-file=/dev/null", *words]
+    run = subprocess.run(call, input=given.encode(), capture_output=True)
     found = re.search(rb"Collected : (\d+)", run.stderr)
     return int(found.group(1)) if found else None
 
@@ -56,13 +56,11 @@ class Loaded:
 
     def __init__(self, program, path, text):
         self.path = path
-        with open(path, "w", encoding="ascii") as file:
-            file.write(text)
+        pathlib.Path(path).write_text(text, encoding="ascii")
         self.words = [program, "session", "--load", path]
         self.load = counted(self.words)
 
     def over(self, lines):
-        """The instructions of lines, without those of the load."""
         both = counted(self.words, lines)
         return None if both is None or self.load is None else both - self.load
 
@@ -71,7 +69,6 @@ class Loaded:
 
 
 def of_kinds(program, count, iptables, folder):
-    """The table of kinds of rules."""
 
     def made(name, text):
         return Loaded(program, os.path.join(folder, name), text)
@@ -103,7 +100,6 @@ def of_kinds(program, count, iptables, folder):
 
 
 def of_shapes(program, count, iptables, folder):
-    """The table of files that ask most of one thing."""
     print()
     row(f"{count:,} rules", ["a load, millions of instructions", "`iptables-legacy-restore --test`"])
     row("---", ["---", "---"])

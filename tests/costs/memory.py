@@ -3,6 +3,7 @@ a row that kept all would be the same row.
 """
 
 import os
+import pathlib
 import re
 import subprocess
 import tempfile
@@ -31,8 +32,7 @@ def peak(program, text):
             session.stdin.write(PACKET)
             session.stdin.flush()
             answer = session.stdout.readline()
-            with open(f"/proc/{session.pid}/status", encoding="ascii") as status:
-                taken = re.search(r"VmHWM:\s+(\d+) kB", status.read())
+            taken = re.search(r"VmHWM:\s+(\d+) kB", pathlib.Path(f"/proc/{session.pid}/status").read_text(encoding="ascii"))
     return int(taken.group(1)) / 1024 if answer.startswith(b"verdict ") and taken else None
 
 

@@ -37,15 +37,12 @@ def least(words):
     def run(steps):
         return asked([*words[:2], "--steps", str(steps), *words[2:]])
 
-    below, enough, best = 0, 1, None
-    while best is None:
-        tried = run(enough)
-        if not unclear(tried[1]):
-            best = tried
-        elif enough >= MOST:
-            return None, tried
-        else:
-            below, enough = enough, min(2 * enough, MOST)
+    below, enough, best = 0, 1, run(1)
+    while unclear(best[1]):
+        if enough >= MOST:
+            return None, best
+        below, enough = enough, min(2 * enough, MOST)
+        best = run(enough)
     while enough - below > max(1, enough // 100):
         middle = (below + enough) // 2
         tried = run(middle)

@@ -26,16 +26,16 @@ def free(calls):
     return program, names
 
 
-def left(program, name, calls):
-    """How often memory could be taken after so many calls of a case."""
-    output, _, _ = program.run(("free",), f"{name} {calls}".encode())
-    return int(re.search(rf"(?m)^{re.escape(name)}: (\d+) left$", output.decode())[1])
-
-
 @pytest.mark.parametrize("part", range(PARTS))
 def test_free(part, free):
     program, names = free
-    took = {name: left(program, name, 1) - left(program, name, 1000) for name in names[part::PARTS]}
+
+    def left(name, calls):
+        """How often memory could be taken after so many calls of a case."""
+        output, _, _ = program.run(("free",), f"{name} {calls}".encode())
+        return int(re.search(rf"(?m)^{re.escape(name)}: (\d+) left$", output.decode())[1])
+
+    took = {name: left(name, 1) - left(name, 1000) for name in names[part::PARTS]}
     assert {name: number for name, number in took.items() if number != (999 if name == PLANTED else 0)} == {}
 
 

@@ -26,12 +26,13 @@ one of so many that some 40 runs are made, and of its table is shown what `-S` l
 
 import collections
 import functools
+import math
 import os
 import re
 
 import pytest
 
-from tests.memory.refusing.program import RefusingProgram
+from tests.memory.refusing.program import BUILT_FOR, RefusingProgram
 from tests.model.session import answer
 from tests.model.words import lines_of
 from tests.shared.case_files import DATA, all_cases
@@ -47,7 +48,6 @@ REFUSED = re.compile(rb"^line ([0-9]+): M0 no memory$", re.MULTILINE)
 BEFORE_ANY_LINE = b"", b"iptsim: no memory\n", 4
 # So many runs in which nothing is refused end the runs of a case that can't show by its output that it is over.
 UNREFUSED = 8
-
 
 # Lines that take the memory of their words alone, or of their words and a rule, each beside another that takes as much and asks
 # nothing of the table: edits that take memory back or need none, rules that bring no new cut where there is room, listings, and the
@@ -82,7 +82,6 @@ RULES_BEFORE = 1, 70
 # Lines that take no memory at all.
 TAKE_NONE = b"", b" \t", b"# x", b"x" * 10_241, b"#" * 10_241
 
-
 # A table with rules of each match and target, their options and inversions, which a restore copies: in the cases most tables that are
 # copied have few rules. The interfaces of FORWARD share a cut.
 COPIED = Play("a table with all kinds of rules, copied", ("session",), rb"""iptables -N a
@@ -103,7 +102,6 @@ END
 iptables-save
 """, None)
 
-
 # Ends a test whose run isn't as is due, and says how, without the way to it.
 differs = functools.partial(pytest.fail, pytrace=False)
 
@@ -112,9 +110,11 @@ class SessionLines:
     """A case as lines of one session: what is given where one of them is refused, and what is due."""
 
     def __init__(self, play):
-        self.words, self.file = play.words, None
-        self.lines = lines_of(play.data)
+        self.words, self.file, self.lines = play.words, None, lines_of(play.data)
         self.statements = statements(self.lines)
+        # A refused line after these is none of the case. Nothing may be refused though lines are served in large tables: there a row is moved where
+        # there is no memory for more room.
+        self.end, self.may_be_over = len(self.lines), len(self.lines) > LONG
 
     def told(self, again, marks):
         """The session with marks; after its lines comes line `again`, if it is a number, and what shows the table."""
@@ -138,37 +138,22 @@ class SessionLines:
         told.say(lines_of(self.given(again)))
         return told.due()
 
-    def is_over(self, line):
-        """Whether the refused line is one after those of the case."""
-        return line is not None and line > len(self.lines)
-
-    def may_be_over(self):
-        """Whether nothing may be refused though lines are served: in large tables a row is moved where there is no memory for more room."""
-        return len(self.lines) > LONG
-
 
 class WholeInput:
     """A case as the program's own restore, or with a file that is loaded."""
 
     def __init__(self, play):
-        self.words, self.file, self.data = play.words, play.file, play.data
-        self.lines = lines_of(play.data + (play.file or b""))
+        self.words, self.file, self.data, self.lines = play.words, play.file, play.data, lines_of(play.data + (play.file or b""))
+        # (after its last allocation nothing is refused any more)
+        self.end, self.may_be_over = math.inf, True
 
     def given(self, again):
         return self.data
 
     def due(self, again, line):
         """The refused line is one of the input, or of the file if its number is below zero."""
-        if line is None:
-            return answer(self.words, self.data, self.file)
-        return answer(self.words, self.data, self.file, {line}, {-line})
-
-    def is_over(self, line):
-        return False
-
-    def may_be_over(self):
-        """After its last allocation nothing is refused any more."""
-        return True
+        marks = () if line is None else ({line}, {-line})
+        return answer(self.words, self.data, self.file, *marks)
 
 
 class Refusals:
@@ -181,7 +166,6 @@ class Refusals:
         self.data, self.dues = self.played.given(None), {}
 
     def give(self, line):
-        """From now on this line comes once more."""
         self.last, self.data, self.dues = line, self.played.given(line), {}
 
     def due(self, line):
@@ -218,7 +202,7 @@ class Refusals:
         if came == BEFORE_ANY_LINE and (self.last is None or self.last < 0):
             return False
         self.compare(number, came, line)
-        if self.played.is_over(line):
+        if line is not None and line > self.played.end:
             return True
         self.count(number, line)
         if line is not None and line != self.last:
@@ -231,36 +215,25 @@ class Refusals:
             self.refused[line], self.unrefused = self.refused[line] + 1, 0
         else:
             self.without, self.unrefused = self.without + 1, self.unrefused + 1
-            if self.last is not None and not self.played.may_be_over():
+            if self.last is not None and not self.played.may_be_over:
                 differs(f"faults: {self.name}: allocation {number} refused, {' '.join(self.played.words)}: a line takes memory, and goes "
                         f"on without it: line {self.last} or a later one")
-
-    def step(self):
-        """Every how-manieth allocation is refused."""
-        lines = len(self.played.lines)
-        if lines <= WHOLE:
-            return 1
-        return max(1, 10 * lines // (RUNS if lines <= LONG else RUNS_OF_LONG))
 
     def is_in_start(self, number):
         """Whether an allocation is taken before any line."""
         self.program.refuse(number)
         return self.run()[0] == BEFORE_ANY_LINE
 
-    def leave_start_out(self):
-        """Finds the last allocation of the program's start, and begins there."""
-        self.first = max(1, first_not(self.is_in_start) - 1)
-
     def none(self):
-        """The run of the case in which nothing is refused."""
-        self.program.refuse_none()
+        self.program.refuse(BUILT_FOR)
         came, line = self.run()
         self.compare(None, came, line)
 
     def all(self):
-        """All runs of the case."""
         self.none()
-        number, step = self.first, self.step()
+        # Every how-manieth allocation is refused.
+        number, lines = self.first, len(self.played.lines)
+        step = 1 if lines <= WHOLE else max(1, 10 * lines // (RUNS if lines <= LONG else RUNS_OF_LONG))
         while not self.refuse(number):
             if self.last is None:
                 self.first = number
@@ -280,36 +253,34 @@ def first_not(holds):
     return number
 
 
-def refuse_all(path, plays):
-    """The runs of some cases. The program's start takes memory as often for all cases with the same words that load no file: of all but the first its
-    allocations are left out."""
+def play_all(path, plays, refuse):
+    """The runs of some cases, without a refusal or with each. The program's start takes memory as often for all cases with the same words that load no
+    file: of all but the first its allocations are left out."""
     program, firsts = RefusingProgram(path), {}
     for play in plays:
         runs = Refusals(program, play, firsts.get(play.words, 1) if play.file is None else 1)
+        if refuse == "none":
+            runs.none()
+            continue
         if firsts and play.file is None and play.words not in firsts:
-            runs.leave_start_out()
+            # (the last allocation of the program's start comes first)
+            runs.first = max(1, first_not(runs.is_in_start) - 1)
         runs.all()
         if play.file is None:
             firsts[play.words] = runs.first
 
 
-def play_all(path, plays):
-    """The same without a refusal."""
-    program = RefusingProgram(path)
-    for play in plays:
-        Refusals(program, play, 1).none()
-
-
+@functools.cache
 class Frugal:
-    """How often lines take memory after others."""
+    """How often lines take memory after others, so many rules among them; made once for each program and number."""
 
-    def __init__(self, program, rules):
-        self.program, self.rules = program, rules
+    def __init__(self, path, rules):
+        self.program, self.rules = RefusingProgram(path), rules
         self.before = [b"iptables -N a", b"iptables -N b", b"iptables -A FORWARD -j b"]
         self.before += [b"iptables -A INPUT -s 1.1.1.%d -j DROP" % number for number in range(1, rules + 1)]
         self.place = len(self.before) + 1
-        # The first allocation after the lines before.
-        self.first = first_not(self.is_before)
+        # The first allocation that isn't taken before the line: of a late one nothing is refused.
+        self.first = first_not(lambda number: self.refused_line(number, b"x") in range(self.place))
 
     def refused_line(self, number, line):
         """The line that is refused, if one is: 0 where none was served."""
@@ -317,11 +288,6 @@ class Frugal:
         output, _, _ = self.program.run(("session",), b"\n".join([*self.before, line, b"iptables -S", b""]))
         found = REFUSED.search(output)
         return int(found[1]) if found else None if output else 0
-
-    def is_before(self, number):
-        """Whether an allocation is taken before the line. Of a late one nothing is refused."""
-        refused = self.refused_line(number, b"x")
-        return refused is not None and refused < self.place
 
     def count(self, line):
         """How often a line that comes after them takes memory, whether it says so where that is refused or not."""
@@ -331,20 +297,9 @@ class Frugal:
                 return count
         differs(f"faults: after {self.rules} rules `{line.decode()}` takes memory {MOST_OF_A_LINE} times and more")
 
-    def compare(self, line, other):
-        taken, due = self.count(line), self.count(other)
-        if taken != due or not due:
-            differs(f"faults: after {self.rules} rules `{line.decode()}` takes memory {taken} times, and `{other.decode()}` {due} times")
 
-    def expect_none(self, line):
-        taken = self.count(line)
-        if taken:
-            differs(f"faults: after {self.rules} rules a line of {len(line)} bytes takes memory {taken} times, and needs none: {line[:20]!r}")
-
-
-@functools.lru_cache(maxsize=None)
+@functools.cache
 def plays(words, refuse):
-    """The cases that are to be played."""
     lines, size = (LONG, MOST) if refuse == "some" and not words else (None, None)
     cases = [case for case in all_cases(words, lines) if size is None or size_of(case) <= size]
     found = [play for case in cases for play in plays_of(case)]
@@ -360,7 +315,7 @@ def test_model(file):
 
 @pytest.mark.parametrize("part", range(PARTS))
 def test_refused(part, iptsim, cases, refuse):
-    (play_all if refuse == "none" else refuse_all)(iptsim.path, plays(cases, refuse)[part::PARTS])
+    play_all(iptsim.path, plays(cases, refuse)[part::PARTS], refuse)
 
 
 @pytest.mark.parametrize("rules", RULES_BEFORE)
@@ -369,13 +324,9 @@ def test_frugal(lines, rules, iptsim, cases, refuse):
     """How often a frugal line takes memory, in a small table and in a larger one."""
     if cases or refuse == "none":
         pytest.skip("cases alone are asked for")
-    frugal = frugal_after(iptsim.path, rules)
-    if isinstance(lines, bytes):
-        frugal.expect_none(lines)
-    else:
-        frugal.compare(*lines)
-
-
-@functools.lru_cache(maxsize=None)
-def frugal_after(path, rules):
-    return Frugal(RefusingProgram(path), rules)
+    frugal = Frugal(iptsim.path, rules)
+    line, other = (lines, None) if isinstance(lines, bytes) else lines
+    taken, due = frugal.count(line), frugal.count(other) if other else 0
+    if taken != due or other and not due:
+        asked = f"and `{other.decode()}` {due} times" if other else "and needs none"
+        differs(f"faults: after {rules} rules a line of {len(line)} bytes takes memory {taken} times, {asked}: {line[:80]!r}")

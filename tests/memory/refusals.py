@@ -3,7 +3,7 @@ the same. The status of a run is 0 where no call was refused, and 4 where one wa
 which it makes the cases of all groups.
 """
 
-import os
+import pathlib
 
 import pytest
 
@@ -14,13 +14,12 @@ pytestmark = pytest.mark.usefixtures("proved")
 # So many runs without a refusal are made after the last with one, and so many at most.
 FURTHER, MOST = 100, 20_000
 GROUPS = ("values", "questions")
-with open(os.path.join(ROOT, "crates", "calls", "stdout"), "rb") as stored:
-    ALL = stored.read()
+ALL = pathlib.Path(ROOT, "crates", "calls", "stdout").read_bytes()
 
 
 @pytest.mark.parametrize("group", GROUPS[::-1])
 def test_refusals(group, calls):
-    program, (due, _, _) = RefusingProgram(calls.path), bare(calls, group)
+    program, due = RefusingProgram(calls.path), calls.said([group])
     refused, number, last = 0, 0, 0
     while number - last < FURTHER or not refused:
         number += 1
@@ -35,12 +34,7 @@ def test_refusals(group, calls):
             refused, last = refused + 1, number
 
 
-def bare(calls, group):
-    ended = calls.run([group])
-    return ended.stdout, ended.stderr, ended.returncode
-
-
 def test_groups(calls):
     """Together the groups print what a run of all cases prints first, up to the last question."""
     last = next(line for line in ALL.splitlines(True) if line.startswith(b"walks under an answer: "))
-    assert b"".join(bare(calls, group)[0] for group in GROUPS) == ALL[:ALL.index(last) + len(last)]
+    assert b"".join(calls.said([group]) for group in GROUPS) == ALL[:ALL.index(last) + len(last)]

@@ -50,19 +50,13 @@ def run(program, words, folder, environment):
         return ended.returncode, ended.stdout, ended.stderr, os.lseek(given.fileno(), 0, os.SEEK_CUR)
 
 
-def told_by_iptsim(came, due):
-    """Whether it said that memory was refused: its message alone, before it read anything, or M0 for a line."""
+def is_told(name, came, due):
+    """Whether a program said that memory was refused. iptsim: its message alone, before it read anything, or M0 for a line. iptaudit: its message,
+    after M0 where a file was restored; and what it wrote is where its answer begins."""
     _, output, errors, place = came
-    return (output, errors, place) == (b"", b"iptsim: no memory\n", 0) or bool(re.search(rb"(?m)^line \d+: M0 no memory$", output + errors))
-
-
-def told_by_iptaudit(came, due):
-    """Whether it said so: its message, after M0 where a file was restored; and what it wrote is where its answer begins."""
-    errors = re.sub(rb"\Aline \d+: M0 no memory\n", b"", came[2])
-    return errors == b"iptaudit: no memory\n" and due[1].startswith(came[1])
-
-
-TOLD = {"iptsim": told_by_iptsim, "iptaudit": told_by_iptaudit}
+    if name == "iptsim":
+        return (output, errors, place) == (b"", b"iptsim: no memory\n", 0) or bool(re.search(rb"(?m)^line \d+: M0 no memory$", output + errors))
+    return re.sub(rb"\Aline \d+: M0 no memory\n", b"", errors) == b"iptaudit: no memory\n" and due[1].startswith(output)
 
 
 @pytest.mark.parametrize("name, words, given, step", RUNS, ids=[f"{name} {words}, {len(given)} bytes" for name, words, given, _ in RUNS])
@@ -74,7 +68,7 @@ def test_refused(name, words, given, step, request, folder):
     while number - last <= FURTHER * step:
         came = run(program, words, folder, {**environment, "REFUSED": str(number)})
         if came[:3] != due[:3]:
-            assert (number, came[0], TOLD[name](came, due), came[1], came[2]) == (number, 4, True, came[1], came[2])
+            assert (number, came[0], is_told(name, came, due), came[1], came[2]) == (number, 4, True, came[1], came[2])
             told, last = told + 1, number
         number += step
     assert told > 0

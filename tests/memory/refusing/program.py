@@ -2,6 +2,7 @@
 
 import os
 import pathlib
+import re
 import shutil
 import subprocess
 import tempfile
@@ -10,19 +11,11 @@ import tempfile
 FOLDER = os.path.dirname(os.path.realpath(__file__))
 SOURCE, OPEN = (os.path.join(FOLDER, name) for name in ("refuse.c", "refuse_open.c"))
 # In a program that tools/refusing built stands the number of the refused allocation, as the four bytes of a comparison with it. Each run
-# has another in its place, since nothing can be preloaded into such a program.
+# has another in its place, since nothing can be preloaded into such a program. No run takes memory so often.
 BUILT_FOR = 123456789
 SIGN = BUILT_FOR.to_bytes(4, "little")
 # Folders above the file that is loaded: a long path takes memory as it is opened.
 DEEP = "x" * 200, "x" * 200
-
-
-def places_of(sign, data):
-    places, at = [], data.find(sign)
-    while at >= 0:
-        places.append(at)
-        at = data.find(sign, at + 1)
-    return places
 
 
 def preloaded(folder, source=SOURCE):
@@ -41,7 +34,7 @@ class RefusingProgram:
         os.makedirs(os.path.dirname(self.load))
         shutil.copy(path, self.path)
         os.chmod(self.path, 0o700)
-        self.places = places_of(SIGN, pathlib.Path(self.path).read_bytes())
+        self.places = [found.start() for found in re.finditer(re.escape(SIGN), pathlib.Path(self.path).read_bytes())]
         self.environment = None if self.places else preloaded(self.folder.name)
 
     def refuse(self, number):
@@ -53,9 +46,6 @@ class RefusingProgram:
             for place in self.places:
                 file.seek(place)
                 file.write(number.to_bytes(4, "little"))
-
-    def refuse_none(self):
-        self.refuse(BUILT_FOR)
 
     def run(self, words, data, file=None):
         """What it writes to standard output and to standard error, and its status."""
