@@ -73,15 +73,15 @@ class Reading:
     def end(self):
         """What is written at the end of the input: the reply to a last line without a newline among it."""
         last = self.line(self.rest) if self.rest else b""
-        return last + (b"" if self.has_ended() else whole(self.model.finish() if self.is_session else self.end_of_restore()))
-
-    def end_of_restore(self):
-        """The listing, unless the restore ends in a section."""
+        if self.has_ended():
+            return last
+        if self.is_session:
+            return last + whole(self.model.finish())
         try:
             self.model.restore.finish()
         except Fault as fault:
-            return self.model.fault(fault)
-        return [] if self.test else printing.listing(self.model.table)
+            return last + whole(self.model.fault(fault))
+        return last + (b"" if self.test else whole(printing.listing(self.model.table)))
 
 
 def in_parts_due(words, parts):
@@ -114,18 +114,16 @@ def written_due(words, parts, most):
 
 
 def cut_input(devices, play):
-    """The input cut at each byte."""
     words, data = play.words, play.data
     for count in range(len(data)):
         head, tail = data[:count], data[count:]
-        compare(f"the first {count} bytes", play, head, devices.whole(words, head), answer(words, head))
+        compare(f"the first {count} bytes", play, head, devices.run(words, input=head), answer(words, head))
         compare(f"a read fails after {count} bytes", play, head, devices.read_fails(words, head), cut_due(words, head))
         parts = [part for part in (head, tail) if part]
         compare(f"in two parts, of {count} bytes and the others", play, data, devices.in_parts(words, parts), in_parts_due(words, parts))
 
 
 def cut_output(devices, play):
-    """The output cut at each byte, and no output at all."""
     words, data = play.words, play.data
     lines = re.findall(rb"[^\n]*\n|[^\n]+", data)
     for about, parts in (("line by line", lines), ("byte by byte", [data[at : at + 1] for at in range(len(data))])):
@@ -154,7 +152,7 @@ def damage(devices, play, dice):
         told.say(lines_of(damaged(dice, play.data)))
         told.close()
         told.show()
-    compare(f"damaged at {DAMAGED} places", play, told.data(), devices.whole(play.words, told.data()), told.due())
+    compare(f"damaged at {DAMAGED} places", play, told.data(), devices.run(play.words, input=told.data()), told.due())
 
 
 @functools.lru_cache(maxsize=None)

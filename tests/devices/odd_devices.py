@@ -5,6 +5,7 @@ A read of a socket of packets gives one packet. A socket whose other end is clos
 it, and then an error. A write beyond the limit on the length of a file writes up to it, and then fails.
 """
 
+import contextlib
 import resource
 import socket
 import subprocess
@@ -35,14 +36,10 @@ def left_in(device):
     """How many parts nobody read."""
     device.setblocking(False)
     count = 0
-    while True:
-        try:
-            part = device.recv(MOST)
-        except (BlockingIOError, ConnectionResetError):
-            return count
-        if not part:
-            return count
-        count += 1
+    with contextlib.suppress(BlockingIOError, ConnectionResetError):
+        while device.recv(MOST):
+            count += 1
+    return count
 
 
 class Devices:
@@ -51,15 +48,9 @@ class Devices:
     def __init__(self, path):
         self.path = path
 
-    def run(self, words, device, **more):
-        """A run on an input device: standard output, standard error and the status."""
-        given = {"stdout": subprocess.PIPE, "stderr": subprocess.PIPE, **more}
-        ended = subprocess.run([self.path, *words], stdin=device, check=False, **given)
-        return ended.stdout, ended.stderr, ended.returncode
-
-    def whole(self, words, data):
-        """A run on an input that comes at once."""
-        ended = subprocess.run([self.path, *words], input=data, capture_output=True, check=False)
+    def run(self, words, **more):
+        """A run: standard output, standard error and the status."""
+        ended = subprocess.run([self.path, *words], check=False, **{"stdout": subprocess.PIPE, "stderr": subprocess.PIPE, **more})
         return ended.stdout, ended.stderr, ended.returncode
 
     def in_parts(self, words, parts):
@@ -67,20 +58,20 @@ class Devices:
         ours, output = socket.socketpair(socket.AF_UNIX, socket.SOCK_SEQPACKET)
         with ours, parts_given(parts) as device:
             with output:
-                _, errors, status = self.run(words, device, stdout=output)
+                _, errors, status = self.run(words, stdin=device, stdout=output)
             return list(iter(lambda: ours.recv(MOST), b"")), errors, status
 
     def read_fails(self, words, data):
         """A run on a device that fails after some bytes."""
         with failing_after(data) as device:
-            return self.run(words, device)
+            return self.run(words, stdin=device)
 
     def write_fails(self, words, parts, most):
         """A run whose output takes so many bytes, on an input that comes in parts: what was written, standard error, the status, and
         how many parts were left unread."""
         with tempfile.TemporaryFile() as file, parts_given(parts) as device:
             limit = lambda: resource.setrlimit(resource.RLIMIT_FSIZE, (most, most))  # noqa: E731
-            _, errors, status = self.run(words, device, stdout=file, restore_signals=False, preexec_fn=limit)
+            _, errors, status = self.run(words, stdin=device, stdout=file, restore_signals=False, preexec_fn=limit)
             file.seek(0)
             return file.read(), errors, status, left_in(device)
 
@@ -90,6 +81,6 @@ class Devices:
             file.write(data)
             file.seek(0)
             if path is None:
-                return self.run(["-c", 'exec "$0" "$@" >&-', self.path, *words], file, executable="/bin/sh")[1:]
+                return self.run(["-c", 'exec "$0" "$@" >&-', self.path, *words], stdin=file, executable="/bin/sh")[1:]
             with open(path, "wb") as output:
-                return self.run(words, file, stdout=output)[1:]
+                return self.run(words, stdin=file, stdout=output)[1:]

@@ -5,6 +5,7 @@ than that, the socket is emptied. What a failed write left may not be written ag
 """
 
 import array
+import contextlib
 import fcntl
 import socket
 import struct
@@ -21,11 +22,9 @@ def fill(device):
     count = 0
     device.setblocking(False)
     for size in (4096, 1):
-        try:
+        with contextlib.suppress(BlockingIOError):
             while True:
                 count += device.send(b"." * size)
-        except BlockingIOError:
-            pass
     device.setblocking(True)
     return count
 
@@ -47,13 +46,9 @@ def check(program):
     run.stdin.flush()
     while not has_read(run.stdin) and run.poll() is None:
         time.sleep(0.01)
-    try:
+    with contextlib.suppress(subprocess.TimeoutExpired):
         run.wait(EMPTIED)
-    except subprocess.TimeoutExpired:
-        pass
-    written = bytearray()
-    while part := reader.recv(65536):
-        written += part
+    written = b"".join(iter(lambda: reader.recv(65536), b""))
     _, errors = run.communicate()
-    assert bytes(written[held:]) == b""
+    assert written[held:] == b""
     assert (run.returncode, errors) == (1, b"iptsim: output failed\n")

@@ -2,7 +2,6 @@
 
 import os
 import re
-import time
 
 import pytest
 
@@ -38,6 +37,8 @@ iptsim: that takes 3 to 5 GB of memory, and about 5 GB of disk under crates/*/ou
 READY = {"iptsim": ", and tools/release packs it.*", "iptaudit": ""}
 SHOWN = "<><two words>a line"
 FOLDERS = [f"crates/{crate}/{folder}" for crate in CRATES["iptsim"] for folder in ("src", "specs", "proofs")]
+# The status of a call, and how many calls of rt it made.
+BUILDS, SILENT = {name: (7, len(crates)) for name, crates in CRATES.items()}, (7, 0)
 
 
 def first_of(folder):
@@ -49,128 +50,87 @@ def first_of(folder):
 SOURCES = ["crates.txt", "crates/fields/src/text/tap.rt", *filter(None, map(first_of, FOLDERS))]
 
 
-class Builder:
-    """One of the scripts, in the copy."""
-
-    def __init__(self, checkout, name, path=None):
-        self.checkout, self.name, self.path = checkout, name, path or checkout.path("bin", name)
-
-    def run(self, **variables):
-        """A call, and how many calls of rt it made. None of these reads the input, and the program runs where the caller stands."""
-        status, output, errors, calls = self.checkout.run([self.path, "", "two words"], cwd=self.checkout.work, **variables)
-        assert self.checkout.noted(".input") == ""
-        assert status != 7 or self.checkout.noted(".folder") == self.checkout.work + "\n"
-        self.output, self.errors, self.calls = output, errors, calls
-        return status, len(calls)
-
-    def builds(self):
-        return 7, len(CRATES[self.name])
-
-
-SILENT = 7, 0
+def called(copy, name, path=None, **variables):
+    """A call, and how many calls of rt it made; then what it wrote, and these calls. None of these reads the input, and the program runs where the caller
+    stands."""
+    status, output, errors, calls = copy.run([path or copy.path("bin", name), "", "two words"], cwd=copy.work, **variables)
+    assert copy.noted(".input") == ""
+    assert status != 7 or copy.noted(".folder") == copy.work + "\n"
+    return (status, len(calls)), output, errors, calls
 
 
 @pytest.fixture(scope="module")
-def copy(shared_folder):
+def shared_copy(shared_folder):
     return Checkout(shared_folder, RT)
 
 
 @pytest.fixture
-def iptsim_script(copy):
-    """bin/iptsim, where the program is built."""
-    builder = Builder(copy, "iptsim")
-    builder.run()
-    return builder
-
-
-@pytest.fixture
-def iptaudit_script(copy):
-    builder = Builder(copy, "iptaudit")
-    builder.run()
-    return builder
-
-
-def settle():
-    """Waits so long that a file which is written then is newer."""
-    time.sleep(0.05)
+def copy(shared_copy):
+    """The copy, where iptsim is built."""
+    called(shared_copy, "iptsim")
+    return shared_copy
 
 
 @pytest.mark.parametrize("name", CRATES)
 def test_first_call(name, folder):
     """It says first what the proof takes, then each crate, and in the end where the program lies. Without rt nothing is made."""
     copy = Checkout(folder, RT)
-    script = Builder(copy, name)
-    assert script.run(PATH=copy.without_rt()) == (1, 0)
-    assert script.errors == LACKS % name
+    assert called(copy, name, PATH=copy.without_rt()) == ((1, 0), "", LACKS % name, [])
     assert not os.path.exists(copy.path("crates", name, "out"))
-    assert script.run() == script.builds()
-    assert (script.output, script.calls[-1]) == (SHOWN, RUNS[name])
-    assert name != "iptsim" or script.errors.startswith(TAKES)
+    came, output, errors, calls = called(copy, name)
+    assert (came, output, calls[-1]) == (BUILDS[name], SHOWN, RUNS[name])
+    assert name != "iptsim" or errors.startswith(TAKES)
     count = len(CRATES[name])
     due = [f"{name}: {text}" for crate in CRATES[name] for text in (f"proving and building {crate}, [0-9]+ of {count}", f"{crate} took [0-9]+ seconds")]
     due.append(f"{name}: built in [0-9]+ seconds; crates/{name}/out/{name} runs by itself{READY[name]}")
-    assert [line for line in due if not re.search(f"(?m)^{line}$", script.errors)] == []
-    assert script.run() == SILENT and script.errors == "message\n"
+    assert [line for line in due if not re.search(f"(?m)^{line}$", errors)] == []
+    assert called(copy, name) == (SILENT, SHOWN, "message\n", [])
 
 
 @pytest.mark.parametrize("place", SOURCES)
-def test_changed_source(place, iptsim_script):
+def test_changed_source(place, copy):
     """It is seen by one call, and not by the next."""
-    settle()
-    iptsim_script.checkout.touch(place)
-    assert iptsim_script.run() == iptsim_script.builds()
-    assert iptsim_script.run() == SILENT
+    copy.change(f"touch {place}")
+    assert [called(copy, "iptsim")[0] for _ in range(2)] == [BUILDS["iptsim"], SILENT]
 
 
-def test_source_of_another_crate(iptsim_script):
-    settle()
-    iptsim_script.checkout.touch("crates/rule_tests/src/lib.rt")
-    assert iptsim_script.run() == SILENT
+def test_source_of_another_crate(copy):
+    copy.change("touch crates/rule_tests/src/lib.rt")
+    assert called(copy, "iptsim")[0] == SILENT
 
 
-def test_source_that_changes_while_it_builds(iptsim_script):
+def test_source_that_changes_while_it_builds(copy):
     """It is newer than the program afterwards."""
-    settle()
-    iptsim_script.checkout.touch("crates.txt")
-    assert iptsim_script.run(CHANGED=iptsim_script.checkout.path("crates/rules/src/lib.rt")) == iptsim_script.builds()
-    assert iptsim_script.run() == iptsim_script.builds()
-    assert iptsim_script.run() == SILENT
+    copy.change("touch crates.txt")
+    assert called(copy, "iptsim", CHANGED=copy.path("crates/rules/src/lib.rt"))[0] == BUILDS["iptsim"]
+    assert [called(copy, "iptsim")[0] for _ in range(2)] == [BUILDS["iptsim"], SILENT]
 
 
-def test_link(iptsim_script, folder):
+def test_link(copy, folder):
     """Called by a link, it is the same program."""
-    path = os.path.join(folder, "linked")
-    os.symlink(iptsim_script.path, path)
-    linked = Builder(iptsim_script.checkout, "iptsim", path)
-    assert linked.run() == SILENT
-    settle()
-    linked.checkout.touch("crates.txt")
-    assert linked.run() == linked.builds()
+    linked = os.path.join(folder, "linked")
+    os.symlink(copy.path("bin/iptsim"), linked)
+    assert called(copy, "iptsim", linked)[0] == SILENT
+    copy.change("touch crates.txt")
+    assert called(copy, "iptsim", linked)[0] == BUILDS["iptsim"]
 
 
 @pytest.mark.parametrize("crate, count", [("fields", 1), ("iptsim", len(CRATES["iptsim"]))])
-def test_crate_that_is_not_proved(crate, count, iptsim_script):
+def test_crate_that_is_not_proved(crate, count, copy):
     """What rt writes is shown, and the program isn't run."""
-    settle()
-    os.unlink(iptsim_script.checkout.path(first_of("crates/table/src")))
-    iptsim_script.checkout.touch("crates/table/src")
-    assert iptsim_script.run(BROKEN=crate) == (1, count)
-    assert iptsim_script.output == "" and f"{crate} is not proved\n" in iptsim_script.errors
-    assert iptsim_script.run() == iptsim_script.builds()
-    with open(iptsim_script.checkout.path(first_of("crates/table/src")), "w", encoding="utf-8"):
-        pass
+    removed = first_of("crates/table/src")
+    copy.change(f"rm {removed}; touch crates/table/src")
+    came, output, errors, _ = called(copy, "iptsim", BROKEN=crate)
+    assert (came, output) == ((1, count), "") and f"{crate} is not proved\n" in errors
+    assert called(copy, "iptsim")[0] == BUILDS["iptsim"]
+    copy.change(f"touch {removed}")
 
 
-def test_sources_of_iptaudit(iptsim_script, iptaudit_script):
+def test_sources_of_iptaudit(copy):
     """Those on which iptsim doesn't stand are seen by iptaudit alone."""
-    for variables in ({}, {"BROKEN": "fields"}):
-        settle()
-        iptsim_script.checkout.touch("crates/questions/src/lib.rt")
-        assert iptsim_script.run() == SILENT
-        if variables:
-            assert iptaudit_script.run(**variables) == (1, 1)
-            assert iptaudit_script.output == ""
-        else:
-            assert iptaudit_script.run() == iptaudit_script.builds()
-            assert iptaudit_script.output == SHOWN
-            assert iptaudit_script.run(BROKEN="iptaudit") == SILENT
+    called(copy, "iptaudit")
+    copy.change("touch crates/questions/src/lib.rt")
+    assert [called(copy, "iptsim")[0], called(copy, "iptaudit")[:2]] == [SILENT, (BUILDS["iptaudit"], SHOWN)]
+    assert called(copy, "iptaudit", BROKEN="iptaudit")[0] == SILENT
+    copy.change("touch crates/questions/src/lib.rt")
+    assert [called(copy, "iptsim")[0], called(copy, "iptaudit", BROKEN="fields")[:2]] == [SILENT, ((1, 1), "")]

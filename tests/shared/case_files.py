@@ -7,6 +7,7 @@ import os
 import re
 
 from tests import ROOT
+from tests.shared import read
 
 DATA = os.path.join(ROOT, "crates", "cases", "data")
 
@@ -19,16 +20,11 @@ REPEAT = re.compile(r"repeat (?:([0-9]+) times|([a-z]+) from ([0-9]+) to ([0-9]+
 WRITTEN = re.compile(rb"\\(?:(\\)|x([0-9A-Fa-f]{2})|\{([^}]*)\})")
 
 
-def escaped(text):
-    """A text in which `\\\\` and `\\xNN` stand for bytes."""
-    return re.sub(rb"\\(?:(\\)|x(..))", lambda found: found[1] or bytes([int(found[2], 16)]), text)
-
-
 def filling(text, numbers):
     """What stands between braces: a text so many times, or the number of a repeat, or one near to it."""
     times = re.fullmatch(rb"([0-9]+) of (.*)", text, re.DOTALL)
     if times:
-        return escaped(times[2]) * int(times[1])
+        return written(times[2], numbers) * int(times[1])
     name, sign, step = re.fullmatch(rb"([a-z]+)(?:([+-])([0-9]+))?", text).groups()
     number, width = numbers[name]
     return b"%0*d" % (width, number + (int(step) if sign == b"+" else -int(step) if sign else 0))
@@ -53,34 +49,26 @@ def rounds(line):
     return [{name.encode(): (number, len(first))} for number in range(int(first), int(last) + 1)]
 
 
-def end_of_repeat(lines, at):
-    """The place of the `end` of the repeat whose lines begin at a place."""
+def body_of(lines):
+    """The lines of a repeat, up to its `end`."""
     depth = 1
-    while True:
-        depth += lines[at].startswith("repeat ") - (lines[at] == "end")
+    for line in lines:
+        depth += line.startswith("repeat ") - (line == "end")
         if not depth:
-            return at
-        at += 1
+            return
+        yield line
 
 
 def expanded(lines, numbers=None):
     """The lines of a file one after another, those that are repeated as often as they stand for, each with its numbers."""
-    at, numbers = 0, numbers or {}
-    while at < len(lines):
-        if lines[at].startswith("repeat "):
-            end = end_of_repeat(lines, at + 1)
-            for more in rounds(lines[at]):
-                yield from expanded(lines[at + 1 : end], {**numbers, **more})
-            at = end
+    lines, numbers = iter(lines), numbers or {}
+    for line in lines:
+        if line.startswith("repeat "):
+            body = list(body_of(lines))
+            for more in rounds(line):
+                yield from expanded(body, {**numbers, **more})
         else:
-            yield lines[at], numbers
-        at += 1
-
-
-def blocks(lines):
-    """The lines of each case, from its first on."""
-    begins = [at for at, line in enumerate(lines) if line.startswith("case ")]
-    return [lines[begin:end] for begin, end in zip(begins, [*begins[1:], len(lines)])]
+            yield line, numbers
 
 
 def lines_of_input(block):
@@ -97,7 +85,6 @@ def lines_of_input(block):
 
 
 def case_of(file, block):
-    """A case from its lines."""
     case, sides, call, has_newline = Case(file, block[0][5:], []), None, None, True
     for line, numbers in expanded(block[1:]):
         if line == "session" or line.split(" ")[0] == "restore":
@@ -117,9 +104,9 @@ def all_cases(words=(), most=None):
     words, and so many lines of input at most, if there is a number."""
     for name in sorted(os.listdir(DATA)):
         if name.endswith(".cases"):
-            with open(os.path.join(DATA, name), encoding="utf-8", newline="") as file:
-                lines = file.read().removesuffix("\n").split("\n")
-            for block in blocks(lines):
+            lines = read(DATA, name).decode().removesuffix("\n").split("\n")
+            begins = [at for at, line in enumerate(lines) if line.startswith("case ")]
+            for block in (lines[begin:end] for begin, end in zip(begins, [*begins[1:], len(lines)])):
                 named = not words or any(word in f"{name}: {block[0][5:]}" for word in words)
                 if named and (most is None or lines_of_input(block) <= most):
                     yield case_of(name, block)

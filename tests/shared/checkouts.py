@@ -1,13 +1,14 @@
 """A copy of the sources, in which the scripts of bin/ that build programs run with a stand-in for rt."""
 
 import os
+import pathlib
 import shutil
 import subprocess
+import time
 
 from tests import ROOT
 from tests.shared.rows import script
 
-COPIED = ("bin", "tools", "crates", "crates.txt")
 # The program that a stand-in makes: it shows its words and its input, and notes where it runs.
 SHOWS = """#!/bin/bash
 printf '<%s>' "$@"
@@ -27,10 +28,9 @@ class Checkout:
     def __init__(self, work, rt):
         self.work, self.top, self.calls = work, os.path.join(work, "copy of it"), os.path.join(work, "calls")
         os.makedirs(os.path.join(work, "tools"))
-        for name in COPIED:
-            copy = shutil.copy if os.path.isfile(os.path.join(ROOT, name)) else shutil.copytree
-            copy(os.path.join(ROOT, name), os.path.join(self.top, name), **(
-                {"ignore": shutil.ignore_patterns("out", "__pycache__")} if copy is shutil.copytree else {"follow_symlinks": True}))
+        for name in ("bin", "tools", "crates"):
+            shutil.copytree(os.path.join(ROOT, name), self.path(name), ignore=shutil.ignore_patterns("out", "__pycache__"))
+        shutil.copy(os.path.join(ROOT, "crates.txt"), self.top)
         script(os.path.join(work, "tools", "rt"), rt)
         self.environment = {**os.environ, "CALLS": self.calls, "BUILT": script(os.path.join(work, "shows"), SHOWS),
                             "PATH": f"{os.path.join(work, 'tools')}:{os.environ['PATH']}"}
@@ -38,21 +38,19 @@ class Checkout:
     def path(self, *place):
         return os.path.join(self.top, *place)
 
-    def touch(self, place):
-        """Changes a file or a folder, after all that was written before."""
-        os.utime(self.path(place))
+    def change(self, command):
+        """Changes sources by a command of the shell, after all that was built before."""
+        time.sleep(0.05)
+        subprocess.run(["/bin/sh", "-c", command], cwd=self.top, check=True)
 
     def noted(self, suffix=""):
         """What the stand-in, or the program that it made, has noted."""
-        if not os.path.exists(self.calls + suffix):
-            return ""
-        with open(self.calls + suffix, encoding="utf-8") as file:
-            return file.read()
+        notes = pathlib.Path(self.calls + suffix)
+        return notes.read_text(encoding="utf-8") if notes.exists() else ""
 
     def forget(self):
         for suffix in ("", ".input", ".folder", ".ended"):
-            if os.path.exists(self.calls + suffix):
-                os.unlink(self.calls + suffix)
+            pathlib.Path(self.calls + suffix).unlink(missing_ok=True)
 
     def run(self, words, input="a line", cwd=None, **variables):
         """A call in the copy: its status, what it wrote, and the calls of rt that it made."""

@@ -84,12 +84,9 @@ def statements(lines):
     """For each line the lines that are given with it: a restore from its opening to its end, or the line alone."""
     model, result, open_one = Session(), [], None
     for line in lines:
-        if open_one is None:
-            result.append([line])
-            open_one = result[-1]
-        else:
-            open_one.append(line)
-            result.append(open_one)
+        open_one = open_one or []
+        open_one.append(line)
+        result.append(open_one)
         model.line(line)
         if not model.restore:
             open_one = None
@@ -127,11 +124,7 @@ class Told:
         """Shows the table: what -S lists, and unless it is large the lines of each chain. Then it is emptied chain by chain, and the user
         chains go: so how often each is named shows too."""
         names = [] if is_large else self.names()
-        self.say([b"iptables -S"])
-        self.show_lines(is_large)
-        self.say([b"iptables -F " + name for name in names])
-        self.say([b"iptables -X " + name for name in names])
-        self.say([b"iptables -S"])
+        self.say([b"iptables -S", *(each + name for each in (b"lines ", b"iptables -F ", b"iptables -X ") for name in names), b"iptables -S"])
 
     def data(self):
         return b"".join(line + b"\n" for line in self.lines)

@@ -1,7 +1,9 @@
 """Rows of data for tests: runs of a command, each with its words and files, and with what is due, to the byte."""
 
 import contextlib
+import json
 import os
+import pathlib
 import subprocess
 import tempfile
 import typing
@@ -40,11 +42,10 @@ def each(*tables):
 def write(folder, files):
     """Writes files, by their names, into a folder. A name that ends in `/` is that of a folder."""
     for name, data in files.items():
-        path = os.path.join(os.fsencode(folder), os.fsencode(name))
+        path = os.path.join(folder, os.fsdecode(name))
         os.makedirs(os.path.dirname(path), exist_ok=True)
-        if not path.endswith(b"/"):
-            with open(path, "wb") as file:
-                file.write(data)
+        if not path.endswith("/"):
+            pathlib.Path(path).write_bytes(data)
 
 
 def differing(due, came):
@@ -70,12 +71,10 @@ class Command:
     def __init__(self, path, **variables):
         self.path, self.variables = path, variables
 
-    def environment(self, variables):
-        every = {**os.environ, **self.variables, **variables}
-        return {name: value for name, value in every.items() if value is not None}
-
     def run(self, words, files=(), input=b"", stdout=None, variables=(), **more):
         """Runs the command on words, in a folder that has the files."""
+        every = {**os.environ, **self.variables, **dict(variables)}
+        environment = {name: value for name, value in every.items() if value is not None}
         with tempfile.TemporaryDirectory() as folder, contextlib.ExitStack() as opened:
             write(folder, dict(files))
             devices = {"input": input} if isinstance(input, bytes) else {"preexec_fn": lambda: os.close(0)}
@@ -83,10 +82,14 @@ class Command:
                 devices = {"stdin": os.open(os.path.join(folder, input), os.O_RDONLY)}
                 opened.callback(os.close, devices["stdin"])
             devices["stdout"] = subprocess.PIPE
+            if stdout is UNREAD:
+                reader, devices["stdout"] = os.pipe()
+                os.close(reader)
+            elif stdout is not None:
+                devices["stdout"] = os.open(stdout, os.O_WRONLY)
             if stdout is not None:
-                devices["stdout"] = unread() if stdout is UNREAD else os.open(stdout, os.O_WRONLY)
                 opened.callback(os.close, devices["stdout"])
-            devices = {"stderr": subprocess.PIPE, "env": self.environment(dict(variables)), "cwd": folder, **devices, **more}
+            devices = {"stderr": subprocess.PIPE, "env": environment, "cwd": folder, **devices, **more}
             return subprocess.run([self.path, *words], check=False, **devices)
 
     def said(self, words, input=b"", files=()):
@@ -96,19 +99,26 @@ class Command:
     def check(self, row):
         """Runs a row, and compares what came with what is due."""
         ended = self.run(row.words, row.files, row.input, row.stdout, row.variables)
-        same((row.status, row.output, row.messages), (ended.returncode, ended.stdout or b"", ended.stderr))
+        same((row.status, row.output, row.messages), outcome(ended))
 
 
-def unread():
-    """The end for writing of a pipe that nobody reads."""
-    reader, writer = os.pipe()
-    os.close(reader)
-    return writer
+def outcome(ended):
+    """What came of a run: the status, standard output, if it didn't go elsewhere, and standard error."""
+    return ended.returncode, ended.stdout or b"", ended.stderr
+
+
+def section(*lines):
+    """A dump of one section with these lines."""
+    return b"".join(line + b"\n" for line in (b"*filter", *lines, b"COMMIT"))
+
+
+def written(document):
+    """A document of JSON as the commands for users write it."""
+    return json.dumps(document, indent=2).encode() + b"\n"
 
 
 def script(path, text):
     """Writes a script that can be run, and returns its path."""
-    with open(path, "w", encoding="utf-8") as file:
-        file.write(text)
+    pathlib.Path(path).write_text(text, encoding="utf-8")
     os.chmod(path, 0o755)
     return path
