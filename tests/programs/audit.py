@@ -2,14 +2,13 @@
 the walks have to be those that it prints, and their verdicts two; and a packet of a rule has to have the rule on its walk.
 """
 
-import os
 import re
 
 import pytest
 
-from tests import ROOT
 from tests.programs.audited.rulesets import CHANGED, COUNTS, COVERED, DEAD, LIKE, SAME, STANDINGS, listed, named, office, ruleset
-from tests.shared.rows import Row, each, same
+from tests.shared import read
+from tests.shared.rows import Row, each, outcome, same
 
 MORE = b"\nFor more information, try '--help'.\n"
 DUMP = office("rules")
@@ -32,12 +31,17 @@ def dead_rows():
     mail = b'dead SERVERS 3 -A SERVERS -d 10.0.2.25/32 -p tcp -m tcp --dport 25 -m comment --comment "mail server" -j ACCEPT\n'
     mail += b"  taken by SERVERS 2 (DROP), FORWARD 1 (DROP), FORWARD 2 (DROP), FORWARD 3 (ACCEPT)\n"
     yield Row("the office", ["dead", "R"], {"R": DUMP}, mail + COUNTS % (20, 1, 0) + STANDINGS % (0, 1), 1)
+    without = re.sub(rb"(?m)^-A SERVERS .*mail server.*\n", b"", DUMP)
+    yield Row("the office, without its dead rule", ["compare", "O", "N"], {"O": DUMP, "N": without}, SAME + CHANGED % (1, 1, 0), 0)
     yield Row("no rules", ["dead", "R"], {"R": b""}, COUNTS % (0, 0, 0), 0)
     for policy, rules, dead, standings in DEAD:
         names = named(rules)
         lines = b"".join(b"dead %s %s\n%s" % (name, names[name], b"  %s\n" % reason if reason else b"") for name, reason in dead.items())
         counts = COUNTS % (len(rules), len(dead), 0) + (standings if dead else b"")
         yield Row(about(rules), ["dead", "R"], {"R": ruleset(policy, rules)}, lines + counts, 1 if dead else 0)
+        # Without these rules each packet gets the same verdict, and just these rules changed.
+        files = {"O": ruleset(policy, rules), "N": ruleset(policy, [rule for name, rule in names.items() if name not in dead])}
+        yield Row(about(rules) + ", without those", ["compare", "O", "N"], files, SAME + CHANGED % (len(dead), len(dead), 0), 0)
     rules = [b"-A INPUT -p %d -j DROP" % number for number in range(101, 111)]
     yield Row("rules that share no packet are passed at once", ["dead", "--steps", "1", "R"], {"R": ruleset(b"DROP", rules)}, COUNTS % (10, 0, 0), 0)
     # Each packet goes through each rule, and comes to the last one with as many steps.
@@ -54,16 +58,6 @@ def dead_rows():
     yield Row("no step", ["dead", "--steps", "0", "R"], {"R": DUMP}, b"".join(lines) + COUNTS % (20, 0, 20), 3)
 
 
-def without_rows():
-    """Rulesets beside themselves without the rules that no packet can match: each packet gets the same verdict, and just these rules changed."""
-    mail = re.search(rb"(?m)^-A SERVERS .*mail server.*\n", DUMP).group()
-    yield Row("the office, without its dead rule", ["compare", "O", "N"], {"O": DUMP, "N": DUMP.replace(mail, b"")}, SAME + CHANGED % (1, 1, 0), 0)
-    for policy, rules, dead, _ in DEAD:
-        left = [rule for name, rule in named(rules).items() if name not in dead]
-        files = {"O": ruleset(policy, rules), "N": ruleset(policy, left)}
-        yield Row(about(rules) + ", without those", ["compare", "O", "N"], files, SAME + CHANGED % (len(dead), len(dead), 0), 0)
-
-
 def test_dead_after_edits(edited, iptaudit):
     iptaudit.check(Row("", ["dead", "R"], {"R": edited}, COUNTS % (20, 0, 0), 0))
 
@@ -74,25 +68,27 @@ def walks(iptsim, data, packets):
     return [walk.splitlines() for walk in re.split(rb"(?m)^verdict .*\n", output)[:-1]]
 
 
-def shown(iptsim, data, output, sign):
-    """Takes the packet after each line that begins with a sign out of an output. It is given to iptsim: the rule of that line has to be on
-    its walk."""
-    found = re.findall(rb"(?m)^" + sign + rb"(\S+ \d+) .*\n(packet .*)\n", output)
+def checked(ended, iptsim, data, sign, status, due):
+    """Compares what came of a run, but for the packet after each line that begins with a sign. It is given to iptsim: the rule of that line has to
+    be on its walk."""
+    found = re.findall(rb"(?m)^" + sign + rb"(\S+ \d+) .*\n(packet .*)\n", ended.stdout)
     came = walks(iptsim, data, [packet for _, packet in found])
     assert len(came) == len(found) and [packet for (name, packet), walk in zip(found, came) if name not in walk] == []
-    return re.sub(rb"(?m)^(" + sign + rb"\S+ \d+ .*\n)packet .*\n", rb"\1", output)
+    rest = re.sub(rb"(?m)^(" + sign + rb"\S+ \d+ .*\n)packet .*\n", rb"\1", ended.stdout)
+    same((status, due, b""), (ended.returncode, rest, ended.stderr))
+    return ended
 
 
 CASES = [("the office", DUMP, OFFICE, {b"SERVERS 3"}), ("no rules", b"", [], {})]
 CASES += [(about(rules), ruleset(policy, rules), rules, dead) for policy, rules, dead, _ in DEAD]
 
 
-@pytest.mark.parametrize("data, rules, dead", [case[1:] for case in CASES], ids=[case[0] for case in CASES])
-def test_tests(data, rules, dead, iptsim, iptaudit):
+@each(CASES)
+def test_tests(row, iptsim, iptaudit):
     """Sessions with a packet for each rule, and of each that has none a comment. What such a session asks covers the rules."""
+    _, data, rules, dead = row
     due = b"".join(b"# %s%s %s\n" % (b"dead " if name in dead else b"", name, rule) for name, rule in listed(rules))
-    ended = iptaudit.run(["tests", "R"], {"R": data})
-    same((1 if dead else 0, due, b""), (ended.returncode, shown(iptsim, data, ended.stdout, b"# "), ended.stderr))
+    ended = checked(iptaudit.run(["tests", "R"], {"R": data}), iptsim, data, b"# ", 1 if dead else 0, due)
     lines = b"".join(b"dead %s %s\n" % (name, rule) for name, rule in listed(rules) if name in dead)
     counts = COVERED % (len(rules), len(rules) - len(dead), 0, len(dead), 0)
     iptaudit.check(Row("covered", ["cover", "R"], {"R": data}, lines + counts, 0, input=ended.stdout))
@@ -112,13 +108,13 @@ GIVEN = [
 ]
 
 
-@pytest.mark.parametrize("given, missed", [row[1:] for row in GIVEN], ids=[row[0] for row in GIVEN])
-def test_cover(given, missed, iptsim, iptaudit):
+@each(GIVEN)
+def test_cover(row, iptsim, iptaudit):
+    _, given, missed = row
     data, words = ruleset(b"DROP", PARTED), {name: b"missed" for name in missed} | {b"INPUT 3": b"dead"}
     due = b"".join(b"%s %s %s\n" % (words[name], name, rule) for name, rule in listed(PARTED) if name in words)
-    ended = iptaudit.run(["cover", "R"], {"R": data}, given)
-    rest = shown(iptsim, data, ended.stdout, b"missed ")
-    same((1 if missed else 0, due + COVERED % (4, 3 - len(missed), len(missed), 1, 0), b""), (ended.returncode, rest, ended.stderr))
+    due += COVERED % (4, 3 - len(missed), len(missed), 1, 0)
+    checked(iptaudit.run(["cover", "R"], {"R": data}, given), iptsim, data, b"missed ", 1 if missed else 0, due)
 
 
 def test_cover_of_the_office(iptsim, iptaudit):
@@ -126,20 +122,8 @@ def test_cover_of_the_office(iptsim, iptaudit):
     met = set().union(*walks(iptsim, DUMP, packets.splitlines()))
     missed = [row for row in listed(OFFICE) if row[0] not in met]
     due = b"".join(b"%s %s %s\n" % ((b"dead" if row[0] == b"SERVERS 3" else b"missed",) + row) for row in missed)
-    ended = iptaudit.run(["cover", "R"], {"R": DUMP}, office("packets"))
-    rest = shown(iptsim, DUMP, ended.stdout, b"missed ")
-    same((1, due + COVERED % (20, len(met), len(missed) - 1, 1, 0), b""), (ended.returncode, rest, ended.stderr))
-
-
-def step_rows():
-    """Too few steps, no rules, and no input."""
-    due = b"".join(b"# unclear %s %s\n" % (name, rule) for name, rule in listed(OFFICE))
-    yield Row("tests, no step", ["tests", "--steps", "0", "R"], {"R": DUMP}, due, 3)
-    clear = b"".join(b"unclear %s %s\n" % row for row in listed(PARTED) if row[0] not in (b"INPUT 1", b"INPUT 2"))
-    yield Row("cover, no step", ["cover", "--steps", "0", "R"], {"R": ruleset(b"DROP", PARTED)}, clear + COVERED % (4, 2, 0, 0, 2), 3,
-              input=PACKET % (b"tcp", 23) + PACKET % (b"udp", 22))
-    yield Row("cover, no rules", ["cover", "R"], {"R": b""}, COVERED % (0, 0, 0, 0, 0), 0)
-    yield Row("cover, a folder as input", ["cover", "R"], {"R": ruleset(b"DROP", PARTED)}, b"", 2, b"iptaudit: input failed\n", input=".")
+    due += COVERED % (20, len(met), len(missed) - 1, 1, 0)
+    checked(iptaudit.run(["cover", "R"], {"R": DUMP}, office("packets")), iptsim, DUMP, b"missed ", 1, due)
 
 
 def test_lines_that_are_no_packets(iptsim, iptaudit):
@@ -153,20 +137,16 @@ def test_lines_that_are_no_packets(iptsim, iptaudit):
     assert said.count(b"\n") == 13
 
 
-def walked_again(iptsim, files, output):
-    """Gives each packet that was printed to iptsim with both rulesets: the walks that were printed come, and two verdicts."""
-    for _, packet, *printed in DIFFERS.findall(output):
+def compared(iptsim, iptaudit, old, new, due, *words):
+    """Compares two rulesets: what is said but for packets; returns the whole answer. Each packet is given to iptsim with both rulesets: the walks that
+    were printed come, and two verdicts."""
+    files = {"O": old, "N": new}
+    ended = iptaudit.run(["compare", *words, "O", "N"], files)
+    same((1 if b" differs\n" in due else 0, due, b""), (ended.returncode, DIFFERS.sub(rb"\1 differs\n", ended.stdout), ended.stderr))
+    for _, packet, *printed in DIFFERS.findall(ended.stdout):
         came = [iptsim.said(["session", "--load", name], packet + b"\n", files) for name in ("O", "N")]
         assert came == printed
         assert len({walk.splitlines()[-1].split(b" by ")[0] for walk in came}) == 2
-
-
-def compared(iptsim, iptaudit, old, new, due, status):
-    """Compares two rulesets: what is said but for packets, which are walked again; returns the whole answer."""
-    files = {"O": old, "N": new}
-    ended = iptaudit.run(["compare", "O", "N"], files)
-    same((status, due, b""), (ended.returncode, DIFFERS.sub(rb"\1 differs\n", ended.stdout), ended.stderr))
-    walked_again(iptsim, files, ended.stdout)
     return ended.stdout
 
 
@@ -175,7 +155,7 @@ def test_compare(row, iptsim, iptaudit):
     """Rulesets that are alike, and those that aren't; and how many rules changed."""
     before, old, after, new, word, counts = row
     due = SAME.replace(b"same", *word, 1) + b"%s\n" % counts[0]
-    compared(iptsim, iptaudit, ruleset(*before, old), ruleset(*after, new), due, 1 if word == [b"differs"] else 0)
+    compared(iptsim, iptaudit, ruleset(*before, old), ruleset(*after, new), due)
 
 
 @pytest.mark.parametrize("is_back, dead", [(False, 0), (True, 1)], ids=["there", "back"])
@@ -183,7 +163,7 @@ def test_compare_after_edits(is_back, dead, edited, iptsim, iptaudit):
     """Of two rules that are turned about, the first one of the old ruleset counts as changed, in both: the rule about mail is dead behind the other."""
     old, new = (edited, DUMP) if is_back else (DUMP, edited)
     due = SAME.replace(b"FORWARD same", b"FORWARD differs") + CHANGED % (2, dead, 0)
-    packet = DIFFERS.search(compared(iptsim, iptaudit, old, new, due, 1)).group(2)
+    packet = DIFFERS.search(compared(iptsim, iptaudit, old, new, due)).group(2)
     assert {b"dst=10.0.2.25", b"dport=25"} < set(packet.split())
 
 
@@ -195,45 +175,30 @@ def test_compare_with_listing(words, is_back, iptsim, iptaudit):
     iptaudit.check(Row("", [*words, "O", "N"], files, SAME + CHANGED % (0, 0, 0), 0))
 
 
-def test_compare_in_few_steps(edited, iptaudit):
+def test_compare_in_few_steps(edited, iptsim, iptaudit):
     iptaudit.check(Row("", ["compare", "--steps", "0", "O", "N"], {"O": DUMP, "N": edited}, SAME.replace(b"same", b"unclear") + CHANGED % (2, 0, 2), 3))
     logs, turned = [b"-A INPUT -j LOG"] * 3, [b"-A INPUT -p tcp -j DROP", b"-A INPUT -p udp -j DROP"]
-    files = {"O": ruleset(b"DROP", logs + turned + [b"-A FORWARD -j DROP"]), "N": ruleset(b"DROP", logs + turned[::-1])}
-    ended = iptaudit.run(["compare", "--steps", "3", "O", "N"], files)
-    same((1, b"INPUT unclear\nFORWARD differs\nOUTPUT same\n" + CHANGED % (3, 0, 2), b""),
-         (ended.returncode, DIFFERS.sub(rb"\1 differs\n", ended.stdout), ended.stderr))
+    old, new = ruleset(b"DROP", logs + turned + [b"-A FORWARD -j DROP"]), ruleset(b"DROP", logs + turned[::-1])
+    compared(iptsim, iptaudit, old, new, b"INPUT unclear\nFORWARD differs\nOUTPUT same\n" + CHANGED % (3, 0, 2), "--steps", "3")
 
 
 CANNOT = b"line 2: T11 target chain missing\niptaudit: cannot restore B\n"
 MISSING = b"error: the following required arguments were not provided:\n  <%s>\n\nUsage: iptaudit %s\n" + MORE
 # Words and files that are refused, and what is said: something else than help, where nothing stands here.
 REFUSED = [
-    (["dead", "B"], CANNOT),
-    (["compare", "B", "R"], CANNOT),
-    (["compare", "R", "B"], CANNOT),
-    (["dead", "nothing"], b"iptaudit: cannot open nothing\n"),
-    (["compare", "R", "nothing"], b"iptaudit: cannot open nothing\n"),
+    *((words, CANNOT) for words in (["dead", "B"], ["compare", "B", "R"], ["compare", "R", "B"], ["tests", "B"], ["dead", "--json", "B"], ["cover", "B"])),
+    *((words, b"iptaudit: cannot open nothing\n") for words in (
+        ["dead", "nothing"], ["compare", "R", "nothing"], ["compare", "--json", "R", "nothing"], ["cover", "nothing"])),
     (["dead", "."], b"iptaudit: cannot read .\n"),
-    (["tests", "B"], CANNOT),
-    (["dead", "--json", "B"], CANNOT),
-    (["compare", "--json", "R", "nothing"], b"iptaudit: cannot open nothing\n"),
     (["reach", "--json", "R", "INPUT"], b"iptaudit: by=FIELD is missing\n"),
-    (["cover", "B"], CANNOT),
-    (["cover", "nothing"], b"iptaudit: cannot open nothing\n"),
     ([], b"iptaudit: no subcommand\n"),
-    (["dead"], MISSING % (b"FILE", b"dead <FILE>")),
-    (["tests"], MISSING % (b"FILE", b"tests <FILE>")),
-    (["cover"], MISSING % (b"FILE", b"cover <FILE>")),
+    *(([name], MISSING % (b"FILE", name.encode() + b" <FILE>")) for name in ("dead", "tests", "cover")),
     (["compare", "R"], MISSING % (b"NEW", b"compare <OLD> <NEW>")),
     (["dead", "--steps", "many", "R"], b"iptaudit: no number of steps: many\n"),
     (["cover", "--steps", "1.5", "R"], b"iptaudit: no number of steps: 1.5\n"),
-    (["dead", "--steps", "-1", "R"], None),
-    (["dead", "R", "R"], None),
-    (["tests", "R", "R"], None),
-    (["boom"], None),
-    (["reach", "--when", "limit", "R", "INPUT", "by=dport"], None),
-    (["reach", "--unknown", "colour", "R", "INPUT", "by=dport"], None),
-    (["--help"], None),
+    *((words, None) for words in (
+        ["dead", "--steps", "-1", "R"], ["dead", "R", "R"], ["tests", "R", "R"], ["boom"], ["reach", "--when", "limit", "R", "INPUT", "by=dport"],
+        ["reach", "--unknown", "colour", "R", "INPUT", "by=dport"], ["--help"])),
     (["dead", b"\xff"], b"iptaudit: a word is not UTF-8\n"),
 ]
 
@@ -241,23 +206,27 @@ REFUSED = [
 @pytest.mark.parametrize("words, messages", REFUSED, ids=[repr(row[0]) for row in REFUSED])
 def test_refused(words, messages, iptaudit):
     ended = iptaudit.run(words, {"R": DUMP, "B": b"*filter\n-A INPUT -j nowhere\nCOMMIT\n"})
-    said = ended.stderr if messages is None and ended.stderr else messages
-    same((2, b"", said), (ended.returncode, ended.stdout, ended.stderr))
+    same((2, b"", ended.stderr if messages is None and ended.stderr else messages), outcome(ended))
 
 
-def program_rows():
-    """A full device; and the version, which is no fault, and that of the file VERSION."""
+def other_rows():
+    """Too few steps, no rules, and no input; a full device; and the version, which is no fault, and that of the file VERSION."""
+    due = b"".join(b"# unclear %s %s\n" % (name, rule) for name, rule in listed(OFFICE))
+    yield Row("tests, no step", ["tests", "--steps", "0", "R"], {"R": DUMP}, due, 3)
+    clear = b"".join(b"unclear %s %s\n" % row for row in listed(PARTED) if row[0] not in (b"INPUT 1", b"INPUT 2"))
+    yield Row("cover, no step", ["cover", "--steps", "0", "R"], {"R": ruleset(b"DROP", PARTED)}, clear + COVERED % (4, 2, 0, 0, 2), 3,
+              input=PACKET % (b"tcp", 23) + PACKET % (b"udp", 22))
+    yield Row("cover, no rules", ["cover", "R"], {"R": b""}, COVERED % (0, 0, 0, 0, 0), 0)
+    yield Row("cover, a folder as input", ["cover", "R"], {"R": ruleset(b"DROP", PARTED)}, b"", 2, b"iptaudit: input failed\n", input=".")
     for question in ("dead", "tests", "cover"):
         for words in ([question, "R"], [question, "--json", "R"]):
             yield Row(f"a full device: {' '.join(words)}", words, {"R": DUMP}, b"", 2, b"iptaudit: output failed\n", stdout="/dev/full")
-    with open(os.path.join(ROOT, "VERSION"), "rb") as file:
-        version = b"iptaudit %s (not released)\n" % file.read().strip()
     for word in ("--version", "-V"):
-        yield Row(word, [word], {}, version, 0)
+        yield Row(word, [word], {}, b"iptaudit %s (not released)\n" % read("VERSION").strip(), 0)
     yield Row("--version to a full device", ["--version"], {}, b"", 2, b"iptaudit: output failed\n", stdout="/dev/full")
     yield Row("compare, no rules", ["compare", "O", "N"], {"O": b"", "N": b""}, SAME + CHANGED % (0, 0, 0), 0)
 
 
-@each(dead_rows, without_rows, step_rows, program_rows)
+@each(dead_rows, other_rows)
 def test_audit(row, iptaudit):
     iptaudit.check(row)

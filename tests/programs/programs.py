@@ -6,27 +6,20 @@ import threading
 
 import pytest
 
-from tests import ROOT
 from tests.devices import stalled
+from tests.programs import HELP, VERSION, help_text
+from tests.shared import read
 from tests.shared.rows import Command, Row, each, same
 
 POLICIES = "*filter\n:INPUT %s [0:0]\n:FORWARD ACCEPT [0:0]\n:OUTPUT ACCEPT [0:0]\n"
 ACCEPTING, DROPPING = POLICIES % "ACCEPT", POLICIES % "DROP"
-DUMP = """# Generated
-*nat
-:PREROUTING ACCEPT [0:0]
-COMMIT
-*filter
-:INPUT DROP [12:900]
-[3:180] -A INPUT -p tcp -m tcp --dport 22 -j ACCEPT
-COMMIT
-"""
 RULE = "-A INPUT -p tcp -m tcp --dport 22 -j ACCEPT\n"
+DUMP = f"# Generated\n*nat\n:PREROUTING ACCEPT [0:0]\nCOMMIT\n*filter\n:INPUT DROP [12:900]\n[3:180] {RULE}COMMIT\n"
 LISTING, INPUT = DROPPING + RULE + "COMMIT\n", "-P INPUT DROP\n" + RULE
 SECTIONS = "*filter\n:INPUT DROP [0:0]\n:a - [0:0]\n-A INPUT -j a\n-A FORWARD -j DROP\nCOMMIT\n*filter\n-A INPUT -j LOG\nCOMMIT\n"
 # The files beside each run; a name that ends in `/` is that of a folder.
-FILES = {"dump": DUMP, "words": "*filter\n-S\nCOMMIT\n", "table": "*filter\nCOMMIT\n*filter\n-N a\n-N a\n", "sections": SECTIONS,
-         "  a dump ": DUMP, "restore": DUMP, "folder/": ""}
+FILES = {"dump": DUMP.encode(), "words": b"*filter\n-S\nCOMMIT\n", "table": b"*filter\nCOMMIT\n*filter\n-N a\n-N a\n", "sections": SECTIONS.encode(),
+         "  a dump ": DUMP.encode(), "restore": DUMP.encode(), "folder/": b""}
 DELETED, OUT_OF_RANGE = "*filter\n-D INPUT 1\nCOMMIT", "line 2: T4 number out of range\n"
 MISSING = "line 2: T11 target chain missing\n"
 
@@ -76,7 +69,7 @@ RUNS = [
 ]
 
 MORE = "\nFor more information, try '--help'.\n"
-VERSION = "iptsim %s (not released)\n"
+RELEASE = f"iptsim {read('VERSION').decode().strip()} (not released)\n"
 # Words that are refused, the message, and the line that is shown under it.
 REFUSED = [
     (["boom"], "unrecognized subcommand 'boom'", "[COMMAND]"),
@@ -90,56 +83,31 @@ REFUSED = [
     (["restore", "--test=yes"], "unexpected value 'yes' for '--test' found; no more were expected", "restore --test"),
     *((["x" * length], f"unrecognized subcommand '{'x' * length}'", "[COMMAND]") for length in (255, 256, 257, 300, 4096)),
 ]
+COMMANDS = (("session", "Run a session from standard input to standard output"),
+            ("restore", "Restore the file on standard input, and print the listing that results"))
+LOAD = ("    --load <FILE>", "Restore FILE first")
 # Words, the status, and what is written to standard output and standard error.
 WORDS = [
     ([], 2, "", "iptsim: no subcommand\n"),
     (["restore", "--load"], 2, "", "error: a value is required for '--load <FILE>' but none was supplied\n" + MORE),
-    (["--help"], 2, "", """The table `filter` of iptables for IPv4, without a kernel
-
-Usage: iptsim [COMMAND]
-
-Commands:
-  session  Run a session from standard input to standard output
-  restore  Restore the file on standard input, and print the listing that results
-
-Options:
-  -h, --help     Print help
-  -V, --version  Print version
-"""),
-    (["session", "--help"], 2, "", """Run a session from standard input to standard output
-
-Usage: iptsim session [OPTIONS]
-
-Options:
-      --load <FILE>  Restore FILE first
-  -h, --help         Print help
-"""),
-    (["restore", "--help"], 2, "", """Restore the file on standard input, and print the listing that results
-
-Usage: iptsim restore [OPTIONS]
-
-Options:
-      --noflush      Keep the rules and the user chains that are there
-      --test         Only read and build: put nothing in place, and print no listing
-      --load <FILE>  Restore FILE first
-  -h, --help         Print help
-"""),
+    (["--help"], 2, "", help_text("The table `filter` of iptables for IPv4, without a kernel", "iptsim [COMMAND]", Commands=COMMANDS, Options=(HELP, VERSION))),
+    (["session", "--help"], 2, "", help_text(COMMANDS[0][1], "iptsim session [OPTIONS]", Options=(LOAD, HELP))),
+    (["restore", "--help"], 2, "", help_text(COMMANDS[1][1], "iptsim restore [OPTIONS]", Options=(
+        ("    --noflush", "Keep the rules and the user chains that are there"),
+        ("    --test", "Only read and build: put nothing in place, and print no listing"), LOAD, HELP))),
     (["session", b"\xff"], 2, "", "iptsim: a word is not UTF-8\n"),
-    (["--version"], 0, VERSION, ""),
-    (["-V"], 0, VERSION, ""),
+    (["--version"], 0, RELEASE, ""),
+    (["-V"], 0, RELEASE, ""),
     *((["session", "--load", "x" * length], 1, "", f"iptsim: cannot open {'x' * length}\n") for length in (255, 256, 257, 300, 4096)),
 ]
 
 INPUT_FAILED, OUTPUT_FAILED = "iptsim: input failed\n", "iptsim: output failed\n"
 # Lines of the shell, in which $program is the program, the status and standard error. A device that nothing is written to doesn't fail.
 DEVICES = [
-    ('"$program" --version >/dev/full', 1, OUTPUT_FAILED),
-    ('"$program" session <&-', 1, INPUT_FAILED),
-    ('"$program" session <folder', 1, INPUT_FAILED),
-    ('"$program" restore --load dump <folder', 1, INPUT_FAILED),
-    ('echo iptables-save | "$program" session >/dev/full', 1, OUTPUT_FAILED),
-    ('echo iptables-save | "$program" session >&-', 1, OUTPUT_FAILED),
-    ('"$program" restore <dump >/dev/full', 1, OUTPUT_FAILED),
+    *((line, 1, INPUT_FAILED) for line in ('"$program" session <&-', '"$program" session <folder', '"$program" restore --load dump <folder')),
+    *((line, 1, OUTPUT_FAILED) for line in (
+        '"$program" --version >/dev/full', 'echo iptables-save | "$program" session >/dev/full', 'echo iptables-save | "$program" session >&-',
+        '"$program" restore <dump >/dev/full')),
     ('"$program" restore --test <dump >/dev/full', 0, ""),
     ('echo "iptables -F" | "$program" session >&-', 0, ""),
     ('"$program" session --load nothing <&- >&-', 1, "iptsim: cannot open nothing\n"),
@@ -163,16 +131,10 @@ LONG = [
 
 
 def run_rows():
-    files = {name: text.encode() for name, text in FILES.items()}
-    with open(os.path.join(ROOT, "VERSION"), encoding="ascii") as file:
-        version = VERSION % file.read().strip()
-    runs = [*RUNS, *LONG]
-    runs += [(" ".join(words)[:60], words, "iptables-save", 2, "", f"error: {message}\n\nUsage: iptsim {shown}\n{MORE}")
-             for words, message, shown in REFUSED]
-    runs += [(" ".join(map(os.fsdecode, words))[:60] or "no word", words, "iptables-save", status, output, messages) for words, status, output, messages in WORDS]
-    for about, words, given, status, output, messages in runs:
-        output = version if output is VERSION else output
-        yield Row(about, words, files, output.encode(), status, messages.encode(), given.encode())
+    alone = [(words, 2, "", f"error: {message}\n\nUsage: iptsim {shown}\n{MORE}") for words, message, shown in REFUSED] + WORDS
+    runs = [(" ".join(map(os.fsdecode, words))[:60] or "no word", words, "iptables-save", *due) for words, *due in alone]
+    for about, words, given, status, output, messages in [*RUNS, *LONG, *runs]:
+        yield Row(about, words, FILES, output.encode(), status, messages.encode(), given.encode())
 
 
 @each(run_rows)
@@ -182,7 +144,7 @@ def test_run(row, iptsim):
 
 @pytest.mark.parametrize("line, status, messages", DEVICES, ids=[line for line, _, _ in DEVICES])
 def test_devices(line, status, messages, iptsim):
-    ended = Command("/bin/bash", program=iptsim.path).run(["-c", line], {name: text.encode() for name, text in FILES.items()})
+    ended = Command("/bin/bash", program=iptsim.path).run(["-c", line], FILES)
     same((status, messages.encode()), (ended.returncode, ended.stderr))
 
 
@@ -191,7 +153,7 @@ def test_stalled_device(iptsim):
     stalled.check(iptsim.path)
 
 
-# Lines of a session, each with its whole reply, which has to be there before the next line is sent. The lines without one come first.
+# Lines of a session, each with its whole reply, which has to be there before the next line is sent, and those that come first.
 CONVERSATION = [
     ("packet INPUT src=10.0.0.1 dst=10.0.0.2 proto=tcp sport=4000 dport=22", "INPUT 1\nINPUT 2\nverdict DROP by rule"),
     ("packet INPUT src=192.168.0.1 dst=10.0.0.2 proto=47", "verdict ACCEPT by policy"),
@@ -210,8 +172,8 @@ ttl 0:{1,2}"""),
     ("iptables -S INPUT", "-P INPUT ACCEPT\n-A INPUT -p tcp -m tcp --dport 22 -j LOG\n-A INPUT -s 10.0.0.0/8 -j DROP"),
     ("iptables-save", ACCEPTING + "-A INPUT -p tcp -m tcp --dport 22 -j LOG\n-A INPUT -s 10.0.0.0/8 -j DROP\nCOMMIT"),
 ]
-SILENT = ["iptables -A INPUT -p tcp --dport 22 -j LOG", "iptables -A INPUT -s 10.0.0.0/8 -j DROP"]
-FAULTS = [("iptables -D INPUT 1", "line 1: T4 number out of range"), ("boom", "line 2: S1 unknown line")]
+FIRST = [("iptables -D INPUT 1", "line 1: T4 number out of range"), ("boom", "line 2: S1 unknown line"),
+         ("iptables -A INPUT -p tcp --dport 22 -j LOG", ""), ("iptables -A INPUT -s 10.0.0.0/8 -j DROP", "")]
 PATIENCE = 60
 
 
@@ -220,7 +182,7 @@ def test_conversation(iptsim):
     with subprocess.Popen([iptsim.path, "session"], stdin=subprocess.PIPE, stdout=subprocess.PIPE, text=True) as talk:
         timer = threading.Timer(PATIENCE, talk.kill)
         timer.start()
-        for line, due in [*FAULTS, *((line, "") for line in SILENT), *CONVERSATION * 2]:
+        for line, due in FIRST + CONVERSATION * 2:
             talk.stdin.write(line + "\n")
             talk.stdin.flush()
             came = [talk.stdout.readline().rstrip("\n") for _ in due.splitlines()]

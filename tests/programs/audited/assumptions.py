@@ -4,13 +4,12 @@ import os
 import subprocess
 
 from tests.programs.audited.documents import GATEWAY, OTHER, WITHOUT, ruleset
-from tests.shared.rows import Row, each, same
+from tests.programs.audited.rulesets import CHANGED, COVERED, SAME
+from tests.shared.rows import Row, each, outcome, same
 
 LINE = b"# iptsim-fit: for trials; assumed limit=true \xff\n"
 OTHER_LINE = b"# iptsim-fit: for trials; assumed recent=false\n"
-SAME = b"INPUT same\nFORWARD same\nOUTPUT same\n"
 COUNTS = b"2 rules, 0 dead, 0 unclear\n"
-CHANGED = b"%d changed rules, %d dead, %d unclear\n"
 UNCLEAR = SAME.replace(b"same", b"unclear") + CHANGED % (1, 0, 1)
 
 # What a file has, and which lines of it are repeated: those that begin so, wherever they stand, and a last one without its newline.
@@ -29,29 +28,26 @@ FILES = [
 ]
 
 
-def cut_rows():
-    """A line that a read cuts at any byte of its beginning: files are read in parts of 65,536 bytes."""
+def question_rows():
+    for data, said in FILES:
+        yield Row(f"{said!r}", ["dead", "R"], {"R": data}, COUNTS, 0, said)
+    # A line that a read cuts at any byte of its beginning: files are read in parts of 65,536 bytes.
     for before in range(65536 - 16, 65536 + 2):
         filling = b"#" * 9999 + b"\n"
         filling = filling * 6 + b"#" * (before - 6 * len(filling) - 1) + b"\n"
         yield Row(f"a line after {before} bytes", ["dead", "R"], {"R": filling + LINE + WITHOUT}, COUNTS, 0, LINE)
-
-
-def question_rows():
-    for data, said in FILES:
-        yield Row(f"{said!r}", ["dead", "R"], {"R": data}, COUNTS, 0, said)
     yield Row("a pipe", ["dead", "/dev/stdin"], {}, COUNTS, 0, LINE, input=LINE + WITHOUT)
     files = {"O": LINE + GATEWAY, "N": OTHER_LINE + WITHOUT, "B": LINE + ruleset(b"INPUT -j nowhere"), "M": OTHER}
     yield Row("of both files", ["compare", "O", "N"], files, SAME + CHANGED % (1, 1, 0), 0, LINE + OTHER_LINE)
     yield Row("of one file twice", ["compare", "N", "N"], files, SAME + CHANGED % (0, 0, 0), 0, OTHER_LINE * 2)
     yield Row("of the old file", ["compare", "--steps", "0", "O", "M"], files, UNCLEAR, 3, LINE)
     yield Row("tests", ["tests", "--steps", "0", "--json", "N"], {"N": OTHER_LINE}, b'{"question":"tests","rules":[]}\n', 0, OTHER_LINE)
-    yield Row("cover", ["cover", "N"], {"N": OTHER_LINE}, b"0 rules, 0 covered, 0 missed, 0 dead, 0 unclear\n", 0, OTHER_LINE, input=b"")
+    yield Row("cover", ["cover", "N"], {"N": OTHER_LINE}, COVERED % (0, 0, 0, 0, 0), 0, OTHER_LINE, input=b"")
     yield Row("reach", ["reach", "N", "INPUT", "by=ttl"], {"N": OTHER_LINE}, b"ACCEPT by policy: all\n", 0, OTHER_LINE)
     yield Row("a fault", ["dead", "B"], files, b"", 2, LINE + b"line 8: T11 target chain missing\niptaudit: cannot restore B\n")
 
 
-@each(question_rows, cut_rows)
+@each(question_rows)
 def test_assumed(row, iptaudit):
     iptaudit.check(row)
 
@@ -63,7 +59,7 @@ def test_slow_pipe(iptaudit):
         slow.stdin.write(WITHOUT)
         slow.stdin.close()
         ended = iptaudit.run(["dead", "/dev/stdin"], input=f"/dev/fd/{os.dup(slow.stdout.fileno())}")
-    same((0, COUNTS, LINE), (ended.returncode, ended.stdout, ended.stderr))
+    same((0, COUNTS, LINE), outcome(ended))
 
 
 def test_iptsim_repeats_nothing(iptsim):

@@ -12,57 +12,36 @@ LOGIN = b"-p tcp -m tcp --dport 22"
 ENDS = [b"-A INPUT -j ACCEPT", b"-A INPUT -j DROP"]
 
 
-def sampled(count):
-    """Jumps on conditions to chains that drop a host each."""
-    jumps = [b"-A INPUT -m statistic --mode nth --every %d --packet 0 -j k%d" % (number + 2, number) for number in range(count)]
-    return jumps + ENDS + [b"-A k%d -s 10.9.0.%d -j DROP" % (number, number) for number in range(count)], [b"INPUT %d" % (count + 2)]
-
-
-def one_chain(count):
-    """Jumps on conditions to one chain, whose last rule comes after a RETURN."""
-    jumps = [b"-A INPUT -m limit --limit %d/sec -j k" % (number + 1) for number in range(count)]
-    return jumps + ENDS + [b"-A k -s 10.9.0.1 -j DROP", b"-A k -j RETURN", b"-A k -s 10.9.0.2 -j DROP"], [b"INPUT %d" % (count + 2), b"k 3"]
-
-
-def banned(count):
-    """Sets of banned hosts, each with a chain that comes back."""
-    jumps = [b"-A INPUT %s -m set --match-set f2b-%d src -j f2b-%d" % (LOGIN, number, number) for number in range(count)]
-    chains = [rule % number for number in range(count) for rule in (b"-A f2b-%d -s 10.9.0.0/24 -j REJECT", b"-A f2b-%d -j RETURN")]
-    return jumps + [b"-A INPUT %s -j ACCEPT" % LOGIN, b"-A INPUT %s -j DROP" % LOGIN] + chains, [b"INPUT %d" % (count + 2)]
-
-
-def cards(count):
-    """Hosts that are told by their network cards."""
-    return [b"-A INPUT -m mac --mac-source 02:00:00:00:00:%02x -j ACCEPT" % number for number in range(count)] + ENDS, [b"INPUT %d" % (count + 2)]
-
-
-def both_ports(count):
-    """Rules that ask both ports, and one whose ports another has."""
-    ports = [b"-A INPUT -p tcp -m multiport --ports %d,%d -j ACCEPT" % (2 * number + 1, 2 * number + 2) for number in range(count)]
-    return ports + [b"-A INPUT -p tcp -m multiport --ports 2 -j DROP", b"-A INPUT -p tcp -j DROP"], [b"INPUT %d" % (count + 1)]
-
-
-def networks(count):
-    """Chains for networks, of whose hosts one is named twice."""
-    jumps = [b"-A FORWARD -d 10.0.%d.0/24 -j n%02d" % (number, number) for number in range(count)]
-    rules = [b"-A n%02d -d 10.0.%d.%d %s -j ACCEPT" % (number, number, host % 30, LOGIN) for number in range(count) for host in range(31)]
-    return jumps + rules, [b"n%02d 31" % number for number in range(count)]
-
-
-def gone_to(count):
-    """Chains that jumps enter, and one also a goto, which doesn't come back: nothing is left for the rule behind it."""
-    ways = [b"-A INPUT %s -j g%d" % (LOGIN, number) for number in range(count)] + [b"-A INPUT -p udp -g g0", b"-A INPUT -p udp -j DROP"]
-    return ways + [b"-A g%d -s 10.9.0.%d -j DROP" % (number, number) for number in range(count)], [b"INPUT %d" % (count + 2)]
-
-
+# Rulesets, and which of their rules are dead.
 RULESETS = {
-    "jumps on conditions": sampled(60),
-    "jumps on conditions to one chain": one_chain(12),
-    "sets of banned hosts": banned(60),
-    "network cards": cards(60),
-    "rules that ask both ports": both_ports(60),
-    "chains for networks": networks(25),
-    "chains that are gone to": gone_to(9),
+    # Each to a chain that drops a host.
+    "jumps on conditions": (
+        [b"-A INPUT -m statistic --mode nth --every %d --packet 0 -j k%d" % (number + 2, number) for number in range(60)] + ENDS
+        + [b"-A k%d -s 10.9.0.%d -j DROP" % (number, number) for number in range(60)], [b"INPUT 62"]),
+    # The chain's last rule comes after a RETURN.
+    "jumps on conditions to one chain": (
+        [b"-A INPUT -m limit --limit %d/sec -j k" % number for number in range(1, 13)] + ENDS
+        + [b"-A k -s 10.9.0.1 -j DROP", b"-A k -j RETURN", b"-A k -s 10.9.0.2 -j DROP"], [b"INPUT 14", b"k 3"]),
+    # Each with a chain that comes back.
+    "sets of banned hosts": (
+        [b"-A INPUT %s -m set --match-set f2b-%d src -j f2b-%d" % (LOGIN, number, number) for number in range(60)]
+        + [b"-A INPUT %s -j ACCEPT" % LOGIN, b"-A INPUT %s -j DROP" % LOGIN]
+        + [rule % number for number in range(60) for rule in (b"-A f2b-%d -s 10.9.0.0/24 -j REJECT", b"-A f2b-%d -j RETURN")], [b"INPUT 62"]),
+    "network cards": (
+        [b"-A INPUT -m mac --mac-source 02:00:00:00:00:%02x -j ACCEPT" % number for number in range(60)] + ENDS, [b"INPUT 62"]),
+    # And one whose ports another has.
+    "rules that ask both ports": (
+        [b"-A INPUT -p tcp -m multiport --ports %d,%d -j ACCEPT" % (number, number + 1) for number in range(1, 120, 2)]
+        + [b"-A INPUT -p tcp -m multiport --ports 2 -j DROP", b"-A INPUT -p tcp -j DROP"], [b"INPUT 61"]),
+    # One host of each is named twice.
+    "chains for networks": (
+        [b"-A FORWARD -d 10.0.%d.0/24 -j n%02d" % (number, number) for number in range(25)]
+        + [b"-A n%02d -d 10.0.%d.%d %s -j ACCEPT" % (number, number, host % 30, LOGIN) for number in range(25) for host in range(31)],
+        [b"n%02d 31" % number for number in range(25)]),
+    # Jumps enter each, and a goto, which doesn't come back, also one of them: nothing is left for the rule behind it.
+    "chains that are gone to": (
+        [b"-A INPUT %s -j g%d" % (LOGIN, number) for number in range(9)] + [b"-A INPUT -p udp -g g0", b"-A INPUT -p udp -j DROP"]
+        + [b"-A g%d -s 10.9.0.%d -j DROP" % (number, number) for number in range(9)], [b"INPUT 11"]),
 }
 
 

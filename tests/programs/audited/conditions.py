@@ -2,6 +2,7 @@
 iptsim, which is asked about each assignment of the conditions: a dump without conditions, in which a rule whose needs fail matches nothing.
 """
 
+import collections
 import itertools
 import re
 
@@ -16,7 +17,6 @@ NEW = ("recent --update --seconds 30 --name x", True)
 
 
 def no(condition):
-    """That a condition doesn't hold."""
     return (*condition, "not")
 
 
@@ -33,7 +33,7 @@ TWICE = ("DROP", [
     ("INPUT", "-j a", []), ("INPUT", "-p udp -j a", []), ("INPUT", "-p udp -g b", [no(HERE)]), ("a", "-s 10.0.0.0/8 -j ACCEPT", [OFTEN]),
     ("a", "-m conntrack --ctstate INVALID -j DROP", []), ("b", "-d 192.0.2.0/24 -j ACCEPT", [HERE]), ("b", "-j DROP", [SELDOM]), ("b", "-j ACCEPT", [])])
 PLAIN = ("DROP", [("INPUT", "-p tcp -m tcp --dport 22 -j ACCEPT", []), ("INPUT", "-p tcp -j DROP", [])])
-DUMPS, NAMES = [UFW, PLACES, TWICE, PLAIN], ["ufw", "places", "twice", "plain"]
+DUMPS = {"ufw": UFW, "places": PLACES, "twice": TWICE, "plain": PLAIN}
 
 
 def without(dump, number):
@@ -55,17 +55,14 @@ PACKETS += ["packet OUTPUT src=10.0.0.1 dst=10.0.0.2 out=eth0 proto=tcp sport=40
 
 
 def places(rules):
-    """Each rule by its chain and number, with its conditions by their keys: a text, or its chain, its text and the how-many-eth it is there."""
-    numbers, texts = {}, {}
+    """Each rule by its chain and number, with its conditions by their keys: a text, or its text, its chain and the how-many-eth it is there."""
+    numbers, texts = collections.Counter(), collections.Counter()
     for chain, words, needs in rules:
-        numbers[chain] = numbers.get(chain, 0) + 1
+        numbers[chain] += 1
         keyed = []
         for text, is_of_place, *inverted in needs:
-            key = (text,)
-            if is_of_place:
-                texts[chain, text] = texts.get((chain, text), 0) + 1
-                key = (text, chain, texts[chain, text])
-            keyed.append((key, not inverted))
+            texts[chain, text] += is_of_place
+            keyed.append(((text, chain, texts[chain, text]) if is_of_place else (text,), not inverted))
         yield f"{chain} {numbers[chain]}", chain, words, keyed
 
 
@@ -74,19 +71,14 @@ def names(rules, of_two=False):
     found = {}
     for name, _, _, needs in places(rules):
         for key, _ in needs:
-            if len(key) == 1:
-                found[key[0]] = key
-            elif of_two:
-                found[f"{key[0]} in {key[1]}" + (f" ({key[2]})" if key[2] > 1 else "")] = key
-            else:
-                found[f"{key[0]} at {name}"] = key
+            text, chain, number = key if len(key) == 3 else (*key, None, 0)
+            in_chain = f"{text} in {chain}" + (f" ({number})" if number > 1 else "")
+            found[text if chain is None else in_chain if of_two else f"{text} at {name}"] = key
     return found
 
 
-def option(text, holds):
-    """The words of a condition in a rule."""
-    match, rest = text.split(" ", 1)
-    return f"-m {match} {'' if holds else '! '}{rest}"
+def dump_of(policy, lines):
+    return (HEAD % policy + "".join(line + "\n" for line in lines) + "COMMIT\n").encode()
 
 
 def whole(dump):
@@ -94,21 +86,20 @@ def whole(dump):
     lines = []
     for chain, words, needs in dump[1]:
         before, target = re.fullmatch("(.*?)(-[jg] .*)", words).groups()
-        lines.append(f"-A {chain} {before}" + "".join(option(need[0], len(need) == 2) + " " for need in needs) + target + "\n")
-    return (HEAD % dump[0] + "".join(lines) + "COMMIT\n").encode()
+        for text, _, *inverted in needs:
+            match, rest = text.split(" ", 1)
+            before += f"-m {match} {'! ' if inverted else ''}{rest} "
+        lines.append(f"-A {chain} {before}{target}")
+    return dump_of(dump[0], lines)
 
 
 def resolved(dump, assignment):
     """What is left of it under an assignment."""
-    lines = []
-    for _, chain, words, needs in places(dump[1]):
-        holds = all(assignment[key] == wanted for key, wanted in needs)
-        lines.append(f"-A {chain} {words if holds else NEVER}\n")
-    return (HEAD % dump[0] + "".join(lines) + "COMMIT\n").encode()
+    return dump_of(dump[0], [f"-A {chain} {words if all(assignment[key] == wanted for key, wanted in needs) else NEVER}"
+                             for _, chain, words, needs in places(dump[1])])
 
 
 def assignments(*dumps):
-    """All assignments of their conditions."""
     keys = sorted({key for dump in dumps for _, _, _, needs in places(dump[1]) for key, _ in needs})
     for values in itertools.product((False, True), repeat=len(keys)):
         yield dict(zip(keys, values))
@@ -121,17 +112,10 @@ def walks(iptsim, data, packets):
     return [(rules.splitlines(), verdict, rules.splitlines()[-1] if by == "rule" else "policy") for rules, verdict, by in found]
 
 
-def answers_of(line, known):
-    """The answers that a line says, by the keys of the conditions."""
-    found = {}
-    for part in line.split(" and ") if line else []:
-        text = part.removeprefix("not ")
-        found[known[text]] = text == part
-    return found
-
-
-def agrees(assignment, answers):
-    return all(assignment[key] == holds for key, holds in answers.items())
+def agrees(assignment, line, known):
+    """Whether an assignment gives the answers that a line says, of conditions by their names."""
+    answers = {part.removeprefix("not "): not part.startswith("not ") for part in line.split(" and ")} if line else {}
+    return all(assignment[known[text]] == holds for text, holds in answers.items())
 
 
 def branch_of(line, assignment, known):
@@ -140,12 +124,12 @@ def branch_of(line, assignment, known):
         found = re.fullmatch(r"if (.*?): (.* by .*)", part)
         if found is None:
             return part
-        if any(agrees(assignment, answers_of(line, known)) for line in found[1].split(" or ")):
+        if any(agrees(assignment, line, known) for line in found[1].split(" or ")):
             return found[2]
     return "nothing"
 
 
-@pytest.mark.parametrize("dump", DUMPS, ids=NAMES)
+@pytest.mark.parametrize("dump", DUMPS.values(), ids=DUMPS)
 def test_walk(dump, iptsim, iptaudit):
     """The walks of packets, which each assignment has, and the rules that they cover."""
     known, data = names(dump[1]), whole(dump)
@@ -174,13 +158,13 @@ def uncovered(dump, text, known, met):
     shown = re.findall(r"(?m)^if (\S+ \d+) -A .*\n  if (.*)$", text)
     wrong = sorted(missed ^ (every - some)) + sorted({name for name, _ in shown} ^ (some - always))
     for name, line in shown:
-        under = [walks for assignment, walks in met if agrees(assignment, answers_of(line, known))]
+        under = [walks for assignment, walks in met if agrees(assignment, line, known)]
         if not under or not any(all(name in rules for rules in packet) for packet in zip(*under)):
             wrong.append((name, line))
     return wrong
 
 
-@pytest.mark.parametrize("dump", DUMPS, ids=NAMES)
+@pytest.mark.parametrize("dump", DUMPS.values(), ids=DUMPS)
 def test_packets_of_rules(dump, iptsim, iptaudit):
     """The packet of each live rule, under its answers; and that no assignment brings a dead rule on the walk of one of these packets."""
     known, text = names(dump[1]), iptaudit.said(["tests", "R"], files={"R": whole(dump)}).decode()
@@ -190,7 +174,7 @@ def test_packets_of_rules(dump, iptsim, iptaudit):
     for assignment in assignments(dump):
         found = walks(iptsim, resolved(dump, assignment), [packet for _, _, packet in live])
         for (name, line, packet), (rules, _, _) in zip(live, found):
-            if agrees(assignment, answers_of(line, known)) and name not in rules or dead & set(rules):
+            if agrees(assignment, line, known) and name not in rules or dead & set(rules):
                 wrong.append((name, line, packet, assignment, rules))
     assert wrong == []
 
@@ -207,7 +191,7 @@ def test_compare(old, new, iptsim, iptaudit):
         both = zip(packets, walks(iptsim, resolved(old, assignment), packets), walks(iptsim, resolved(new, assignment), packets))
         for place, (packet, first, second) in enumerate(both):
             are_same = first[1] == second[1]
-            if place < len(differs) and are_same and agrees(assignment, answers_of(differs[place][2], known)):
+            if place < len(differs) and are_same and agrees(assignment, differs[place][2], known):
                 wrong.append((packet, assignment, first, second))
             if not are_same and f"{packet.split()[1]} same\n" in text:
                 wrong.append((packet, assignment, first, second))

@@ -1,5 +1,6 @@
 """iptaudit with --json: the words, the files, standard input, the status, and the document that is due, to the byte."""
 
+import functools
 import json
 
 from tests.shared.rows import Row, each
@@ -11,26 +12,45 @@ def ruleset(*rules):
     return POLICIES + b"".join(b"-A %s\n" % rule for rule in rules) + b"COMMIT\n"
 
 
-def rule(chain, number, text, life, **more):
+def rule(chain, number, text, life, needs=(), **more):
     """An entry of a rule, whose text stands after `-A` and its chain."""
-    return {"chain": chain, "number": number, "rule": f"-A {chain} {text}", "life": life, **more}
+    return {**step(chain, number), "rule": f"-A {chain} {text}", **({"needs": needs} if needs else {}), "life": life, **more}
 
 
 def step(chain, number, **more):
     return {"chain": chain, "number": number, **more}
 
 
-def counts(rules, dead, unclear, redundant, shadowed):
-    return {"rules": rules, "dead": dead, "unclear": unclear, "redundant": redundant, "shadowed": shadowed}
+def counted(names, *numbers):
+    return dict(zip(names.split(), numbers))
 
 
-def changes(changed, dead, unclear):
-    return {"changed": changed, "dead": dead, "unclear": unclear}
+counts = functools.partial(counted, "rules dead unclear redundant shadowed")
+changes = functools.partial(counted, "changed dead unclear")
+coverage = functools.partial(counted, "rules covered missed dead unclear")
 
 
-def coverage(rules, covered, missed, dead, unclear, covered_if=None):
-    some = {} if covered_if is None else {"covered_if": covered_if}
-    return {"rules": rules, "covered": covered, **some, "missed": missed, "dead": dead, "unclear": unclear}
+def told(numbers, *rules, **more):
+    """A document about rules, and their counts."""
+    return {"rules": list(rules), "counts": numbers, **more}
+
+
+def hooks(numbers, answer="same", **others):
+    """A document of `compare`: the hooks have one answer, but for some."""
+    return {"hooks": [{"hook": hook, **others.get(hook, {"answer": answer})} for hook in ("INPUT", "FORWARD", "OUTPUT")], "counts": numbers}
+
+
+def differs(packet, old, new, **more):
+    return {"answer": "differs", "packet": packet, **more, "old": old, "new": new}
+
+
+def walk(verdict, *trail, policy=None):
+    """A walk along rules, of which the last gives the verdict, if no policy does."""
+    return {"trail": list(trail), "verdict": verdict, "by": {"policy": policy} if policy else trail[-1]}
+
+
+def of_login(**more):
+    return {"packets": [{"packet": LOGIN.decode().strip(), **more}]}
 
 
 def taken(*rules, policies=()):
@@ -62,7 +82,6 @@ REJECTED = ruleset(b"INPUT -j REJECT --reject-with icmp-port-unreachable", b"INP
 REJECT = step("INPUT", 1, verdict="REJECT icmp-port-unreachable")
 BOTH_PORTS = ruleset(b"INPUT -p udp -m udp --sport 53 -j DROP", b"INPUT -p udp -m udp --dport 53 -j DROP",
                      b"INPUT -p udp -m multiport --ports 53 -j ACCEPT")
-EMPTY = {"rules": [], "counts": counts(0, 0, 0, 0, 0)}
 
 # Dumps with conditions: one that the packet decides, those of places, of which two in one chain have one text, and a rule whose conditions
 # contradict each other.
@@ -79,17 +98,16 @@ def limited(number, holds=True):
     return {"condition": LIMIT, "chain": "a", "number": number, "holds": holds}
 
 
-def lived(life):
-    """The rules of LIMITED but for the last, each with a packet."""
+def lived(life, packet=True):
+    """The rules of LIMITED, each but for the last with a packet, if there is one."""
     found = [("INPUT", 1, "-j a", [HERE]), ("a", 1, "-p tcp -j LOG", [HERE, limited(1)]), ("a", 2, "-p tcp -j ACCEPT", [HERE, limited(2)])]
-    return [{"chain": chain, "number": number, "rule": f"-A {chain} {text}", "needs": answers[-1:], "life": life, "answers": answers, "packet": TCP_PACKET}
-            for chain, number, text, answers in found] + [BARE]
+    more = {"packet": TCP_PACKET} if packet else {}
+    return [rule(chain, number, text, life, answers[-1:], answers=answers, **more) for chain, number, text, answers in found] + [BARE]
 
 
 def waiting(number):
     """A rule of JUMPS whose jump waits for a condition."""
-    condition = {"condition": f"limit --limit {number}/sec", "chain": "INPUT", "number": number, "holds": True}
-    return {"chain": "INPUT", "number": number, "rule": "-A INPUT -j a", "needs": [condition], "life": "unclear"}
+    return rule("INPUT", number, "-j a", "unclear", [{"condition": f"limit --limit {number}/sec", **step("INPUT", number), "holds": True}])
 
 
 # Jumps that wait for conditions: a packet has a walk for each of the assignments.
@@ -101,152 +119,103 @@ TCP_PACKET = MAIL_PACKET.replace("dport=25", "dport=80")
 # The words after the question and --json, the files, standard input, the status, and the document but for its question.
 DOCUMENTS = {
     "dead": [
-        (["R"], {"R": GATEWAY}, b"", 1, {
-            "rules": [rule("INPUT", 2, MAIL, "dead", reason=taken(step("INPUT", 1, verdict="ACCEPT")), standing="shadowed")],
-            "counts": counts(3, 1, 0, 0, 1)}),
-        (["R"], {"R": REASONS}, b"", 1, {
-            "rules": [
-                rule("INPUT", 1, "! -i + -j DROP", "dead", reason={"kind": "impossible", "field": "in"}),
-                rule("a", 1, "-p icmp", "dead", reason={"kind": "excluded", "rules": [step("INPUT", 2), step("FORWARD", 1)]}),
-                rule("b", 1, "-m comment --comment \"\ufffd \u00e4\x01\" -j ACCEPT", "dead", reason={"kind": "unreached"})],
-            "counts": counts(6, 3, 0, 0, 0)}),
-        (["R"], {"R": ruleset(b"INPUT -j a", b"a -o eth0 -j DROP")}, b"", 1, {
-            "rules": [rule("a", 1, "-o eth0 -j DROP", "dead", reason={"kind": "no_packet"})], "counts": counts(2, 1, 0, 0, 0)}),
-        (["R"], {"R": TAKERS}, b"", 1, {
-            "rules": [
-                rule("INPUT", 8, "-p tcp -j a", "dead", reason=taken(step("INPUT", 1, verdict="DROP"))),
-                rule("a", 2, "-j ACCEPT", "dead",
-                     reason=taken(step("a", 1, verdict="DROP"), *(step("INPUT", number, verdict="DROP") for number in range(1, 8))),
-                     standing="shadowed")],
-            "counts": counts(11, 2, 0, 0, 1)}),
-        (["R"], {"R": RETURNED}, b"", 1, {
-            "rules": [rule("a", 2, "-p tcp -j ACCEPT", "dead", reason=taken(policies=[("INPUT", "DROP"), ("FORWARD", "ACCEPT")]),
-                           standing="shadowed")],
-            "counts": counts(4, 1, 0, 0, 1)}),
-        (["R"], {"R": REJECTED}, b"", 1, {
-            "rules": [
-                rule("INPUT", 2, "-p tcp -j REJECT --reject-with tcp-reset", "dead", reason=taken(REJECT), standing="shadowed"),
-                rule("INPUT", 3, "-p udp -j REJECT --reject-with icmp-port-unreachable", "dead", reason=taken(REJECT), standing="redundant")],
-            "counts": counts(3, 2, 0, 1, 1)}),
-        (["R"], {"R": BOTH_PORTS}, b"", 1, {
-            "rules": [rule("INPUT", 3, "-p udp -m multiport --ports 53 -j ACCEPT", "dead")], "counts": counts(3, 1, 0, 0, 0)}),
-        (["--steps", "0", "R"], {"R": WITHOUT}, b"", 3, {
-            "rules": [rule("INPUT", 1, WEB, "unclear"), rule("INPUT", 2, NAMES, "unclear")], "counts": counts(2, 0, 2, 0, 0)}),
-        (["R"], {"R": WITHOUT}, b"", 0, {"rules": [], "counts": counts(2, 0, 0, 0, 0)}),
-        (["R"], {"R": b""}, b"", 0, EMPTY),
-        (["R"], {"R": LIMITED}, b"", 1, {
-            "rules": [{**BARE, "reason": {"kind": "unmet"}}], "counts": counts(4, 1, 0, 0, 0), "open": OPEN}),
+        (["R"], {"R": GATEWAY}, b"", 1, told(
+            counts(3, 1, 0, 0, 1), rule("INPUT", 2, MAIL, "dead", reason=taken(step("INPUT", 1, verdict="ACCEPT")), standing="shadowed"))),
+        (["R"], {"R": REASONS}, b"", 1, told(
+            counts(6, 3, 0, 0, 0),
+            rule("INPUT", 1, "! -i + -j DROP", "dead", reason={"kind": "impossible", "field": "in"}),
+            rule("a", 1, "-p icmp", "dead", reason={"kind": "excluded", "rules": [step("INPUT", 2), step("FORWARD", 1)]}),
+            rule("b", 1, "-m comment --comment \"\ufffd \u00e4\x01\" -j ACCEPT", "dead", reason={"kind": "unreached"}))),
+        (["R"], {"R": ruleset(b"INPUT -j a", b"a -o eth0 -j DROP")}, b"", 1, told(
+            counts(2, 1, 0, 0, 0), rule("a", 1, "-o eth0 -j DROP", "dead", reason={"kind": "no_packet"}))),
+        (["R"], {"R": TAKERS}, b"", 1, told(
+            counts(11, 2, 0, 0, 1),
+            rule("INPUT", 8, "-p tcp -j a", "dead", reason=taken(step("INPUT", 1, verdict="DROP"))),
+            rule("a", 2, "-j ACCEPT", "dead", reason=taken(
+                step("a", 1, verdict="DROP"), *(step("INPUT", number, verdict="DROP") for number in range(1, 8))), standing="shadowed"))),
+        (["R"], {"R": RETURNED}, b"", 1, told(
+            counts(4, 1, 0, 0, 1),
+            rule("a", 2, "-p tcp -j ACCEPT", "dead", reason=taken(policies=[("INPUT", "DROP"), ("FORWARD", "ACCEPT")]), standing="shadowed"))),
+        (["R"], {"R": REJECTED}, b"", 1, told(
+            counts(3, 2, 0, 1, 1),
+            rule("INPUT", 2, "-p tcp -j REJECT --reject-with tcp-reset", "dead", reason=taken(REJECT), standing="shadowed"),
+            rule("INPUT", 3, "-p udp -j REJECT --reject-with icmp-port-unreachable", "dead", reason=taken(REJECT), standing="redundant"))),
+        (["R"], {"R": BOTH_PORTS}, b"", 1, told(counts(3, 1, 0, 0, 0), rule("INPUT", 3, "-p udp -m multiport --ports 53 -j ACCEPT", "dead"))),
+        (["--steps", "0", "R"], {"R": WITHOUT}, b"", 3, told(counts(2, 0, 2, 0, 0), rule("INPUT", 1, WEB, "unclear"), rule("INPUT", 2, NAMES, "unclear"))),
+        (["R"], {"R": WITHOUT}, b"", 0, told(counts(2, 0, 0, 0, 0))),
+        (["R"], {"R": b""}, b"", 0, told(counts(0, 0, 0, 0, 0))),
+        (["R"], {"R": LIMITED}, b"", 1, told(counts(4, 1, 0, 0, 0), {**BARE, "reason": {"kind": "unmet"}}, open=OPEN)),
     ],
     "compare": [
-        (["O", "N"], {"O": GATEWAY, "N": WITHOUT}, b"", 0, {
-            "hooks": [{"hook": hook, "answer": "same"} for hook in ("INPUT", "FORWARD", "OUTPUT")], "counts": changes(1, 1, 0)}),
-        (["O", "O"], {"O": GATEWAY}, b"", 0, {
-            "hooks": [{"hook": hook, "answer": "same"} for hook in ("INPUT", "FORWARD", "OUTPUT")], "counts": changes(0, 0, 0)}),
-        (["O", "N"], {"O": GATEWAY, "N": OTHER}, b"", 1, {
-            "hooks": [
-                {"hook": "INPUT", "answer": "differs", "packet": MAIL_PACKET,
-                 "old": {"trail": [step("INPUT", 1)], "verdict": "ACCEPT", "by": step("INPUT", 1)},
-                 "new": {"trail": [step("INPUT", 1)], "verdict": "DROP", "by": step("INPUT", 1)}},
-                {"hook": "FORWARD", "answer": "same"}, {"hook": "OUTPUT", "answer": "same"}],
-            "counts": changes(1, 0, 0)}),
-        (["O", "N"], {"O": GATEWAY, "N": REFUSING}, b"", 1, {
-            "hooks": [
-                {"hook": "INPUT", "answer": "differs", "packet": NAME_PACKET,
-                 "old": {"trail": [step("INPUT", 3)], "verdict": "ACCEPT", "by": step("INPUT", 3)},
-                 "new": {"trail": [step("INPUT", 3)], "verdict": "DROP", "by": step("INPUT", 3)}},
-                {"hook": "FORWARD", "answer": "same"}, {"hook": "OUTPUT", "answer": "same"}],
-            "counts": changes(2, 0, 0)}),
-        (["O", "N"], {"O": GATEWAY, "N": GATEWAY.replace(b":OUTPUT ACCEPT", b":OUTPUT DROP")}, b"", 1, {
-            "hooks": [
-                {"hook": "INPUT", "answer": "same"}, {"hook": "FORWARD", "answer": "same"},
-                {"hook": "OUTPUT", "answer": "differs", "packet": OUT_PACKET,
-                 "old": {"trail": [], "verdict": "ACCEPT", "by": {"policy": "OUTPUT"}},
-                 "new": {"trail": [], "verdict": "DROP", "by": {"policy": "OUTPUT"}}}],
-            "counts": changes(0, 0, 0)}),
-        (["O", "N"], {"O": ruleset(b"FORWARD -p icmp -j a", b"a -p icmp -j REJECT"), "N": ruleset(b"FORWARD -p icmp", b"FORWARD -p icmp -j RETURN")},
-         b"", 1, {
-            "hooks": [
-                {"hook": "INPUT", "answer": "same"},
-                {"hook": "FORWARD", "answer": "differs",
-                 "packet": "packet FORWARD src=192.0.2.1 dst=198.51.100.1 in=eth0 out=eth0 proto=1 icmp=8/0 ct=NEW ttl=64",
-                 "old": {"trail": [step("FORWARD", 1), step("a", 1)], "verdict": "REJECT icmp-port-unreachable", "by": step("a", 1)},
-                 "new": {"trail": [step("FORWARD", 1), step("FORWARD", 2)], "verdict": "ACCEPT", "by": {"policy": "FORWARD"}}},
-                {"hook": "OUTPUT", "answer": "same"}],
-            "counts": changes(4, 0, 0)}),
-        (["--steps", "0", "O", "N"], {"O": GATEWAY, "N": OTHER}, b"", 3, {
-            "hooks": [{"hook": hook, "answer": "unclear"} for hook in ("INPUT", "FORWARD", "OUTPUT")], "counts": changes(1, 0, 1)}),
-        (["O", "N"], {"O": LIMITED, "N": REFUSED}, b"", 1, {
-            "hooks": [
-                {"hook": "INPUT", "answer": "differs", "packet": TCP_PACKET, "answers": [SECOND, HERE],
-                 "old": {"trail": [step("INPUT", 1), step("a", 1, answers=[FIRST]), step("a", 2)], "verdict": "ACCEPT", "by": step("a", 2)},
-                 "new": {"trail": [step("INPUT", 1), step("a", 1, answers=[FIRST]), step("a", 2)],
-                         "verdict": "REJECT icmp-port-unreachable", "by": step("a", 2)}},
-                {"hook": "FORWARD", "answer": "same"}, {"hook": "OUTPUT", "answer": "same"}],
-            "counts": changes(2, 0, 0), "open": OPEN, "premise": "answers_stay"}),
-        (["--when", "! limit --limit 3/min", "--when", "addrtype --dst-type LOCAL", "O", "N"], {"O": LIMITED, "N": REFUSED}, b"", 0, {
-            "hooks": [{"hook": hook, "answer": "same"} for hook in ("INPUT", "FORWARD", "OUTPUT")], "counts": changes(2, 2, 0)}),
+        (["O", "N"], {"O": GATEWAY, "N": WITHOUT}, b"", 0, hooks(changes(1, 1, 0))),
+        (["O", "O"], {"O": GATEWAY}, b"", 0, hooks(changes(0, 0, 0))),
+        (["O", "N"], {"O": GATEWAY, "N": OTHER}, b"", 1, hooks(
+            changes(1, 0, 0), INPUT=differs(MAIL_PACKET, walk("ACCEPT", step("INPUT", 1)), walk("DROP", step("INPUT", 1))))),
+        (["O", "N"], {"O": GATEWAY, "N": REFUSING}, b"", 1, hooks(
+            changes(2, 0, 0), INPUT=differs(NAME_PACKET, walk("ACCEPT", step("INPUT", 3)), walk("DROP", step("INPUT", 3))))),
+        (["O", "N"], {"O": GATEWAY, "N": GATEWAY.replace(b":OUTPUT ACCEPT", b":OUTPUT DROP")}, b"", 1, hooks(
+            changes(0, 0, 0), OUTPUT=differs(OUT_PACKET, walk("ACCEPT", policy="OUTPUT"), walk("DROP", policy="OUTPUT")))),
+        (["O", "N"], {"O": ruleset(b"FORWARD -p icmp -j a", b"a -p icmp -j REJECT"), "N": ruleset(b"FORWARD -p icmp", b"FORWARD -p icmp -j RETURN")}, b"", 1,
+         hooks(changes(4, 0, 0), FORWARD=differs(
+                "packet FORWARD src=192.0.2.1 dst=198.51.100.1 in=eth0 out=eth0 proto=1 icmp=8/0 ct=NEW ttl=64",
+                walk("REJECT icmp-port-unreachable", step("FORWARD", 1), step("a", 1)),
+                walk("ACCEPT", step("FORWARD", 1), step("FORWARD", 2), policy="FORWARD")))),
+        (["--steps", "0", "O", "N"], {"O": GATEWAY, "N": OTHER}, b"", 3, hooks(changes(1, 0, 1), answer="unclear")),
+        (["O", "N"], {"O": LIMITED, "N": REFUSED}, b"", 1, {**hooks(
+            changes(2, 0, 0), INPUT=differs(
+                TCP_PACKET, walk("ACCEPT", step("INPUT", 1), step("a", 1, answers=[FIRST]), step("a", 2)),
+                walk("REJECT icmp-port-unreachable", step("INPUT", 1), step("a", 1, answers=[FIRST]), step("a", 2)), answers=[SECOND, HERE])),
+            "open": OPEN, "premise": "answers_stay"}),
+        (["--when", "! limit --limit 3/min", "--when", "addrtype --dst-type LOCAL", "O", "N"], {"O": LIMITED, "N": REFUSED}, b"", 0, hooks(changes(2, 2, 0))),
     ],
     "tests": [
-        (["R"], {"R": GATEWAY}, b"", 1, {
-            "rules": [rule("INPUT", 1, WEB, "live", packet=WEB_PACKET), rule("INPUT", 2, MAIL, "dead"),
-                      rule("INPUT", 3, NAMES, "live", packet=NAME_PACKET)]}),
-        (["--steps", "0", "R"], {"R": WITHOUT}, b"", 3, {
-            "rules": [rule("INPUT", 1, WEB, "unclear"), rule("INPUT", 2, NAMES, "unclear")]}),
-        (["R"], {"R": ruleset(b"INPUT -i \"a'b\" -p icmp -j DROP")}, b"", 0, {
-            "rules": [rule("INPUT", 1, "-i a'b -p icmp -j DROP", "live",
-                           packet="packet INPUT src=192.0.2.1 dst=198.51.100.1 \"in=a\\'b\" proto=1 icmp=8/0 ct=NEW ttl=64")]}),
+        (["R"], {"R": GATEWAY}, b"", 1, {"rules": [
+            rule("INPUT", 1, WEB, "live", packet=WEB_PACKET), rule("INPUT", 2, MAIL, "dead"), rule("INPUT", 3, NAMES, "live", packet=NAME_PACKET)]}),
+        (["--steps", "0", "R"], {"R": WITHOUT}, b"", 3, {"rules": [rule("INPUT", 1, WEB, "unclear"), rule("INPUT", 2, NAMES, "unclear")]}),
+        (["R"], {"R": ruleset(b"INPUT -i \"a'b\" -p icmp -j DROP")}, b"", 0, {"rules": [
+            rule("INPUT", 1, "-i a'b -p icmp -j DROP", "live",
+                 packet="packet INPUT src=192.0.2.1 dst=198.51.100.1 \"in=a\\'b\" proto=1 icmp=8/0 ct=NEW ttl=64")]}),
         (["R"], {"R": LIMITED}, b"", 1, {"rules": lived("live"), "open": OPEN}),
     ],
     "cover": [
-        (["R"], {"R": GATEWAY}, b"# Is the gateway reached?\n" + LOGIN, 1, {
-            "rules": [rule("INPUT", 1, WEB, "covered"), rule("INPUT", 2, MAIL, "dead"), rule("INPUT", 3, NAMES, "missed", packet=NAME_PACKET)],
-            "counts": coverage(3, 1, 1, 1, 0)}),
-        (["--steps", "0", "R"], {"R": WITHOUT}, LOGIN, 3, {
-            "rules": [rule("INPUT", 1, WEB, "covered"), rule("INPUT", 2, NAMES, "unclear")], "counts": coverage(2, 1, 0, 0, 1)}),
-        (["R"], {"R": LIMITED}, b"", 1, {"rules": lived("missed"), "counts": coverage(4, 0, 3, 1, 0), "open": OPEN}),
-        (["R"], {"R": LIMITED}, LOGIN, 0, {
-            "rules": [{key: value for key, value in entry.items() if key != "packet"} for entry in lived("covered")],
-            "counts": coverage(4, 3, 0, 1, 0, covered_if=3), "open": OPEN}),
-        (["--steps", "24", "R"], {"R": JUMPS}, b"\n" + LOGIN + LOGIN, 1, {
-            "rules": [*(waiting(number) for number in range(1, 6)), rule("INPUT", 6, "-j ACCEPT", "unclear"),
-                      rule("a", 1, "-s 10.0.0.1/32 -j DROP", "missed", answers=waiting(1)["needs"], packet=TCP_PACKET.replace("192.0.2.1", "10.0.0.1"))],
-            "counts": coverage(7, 0, 1, 0, 6), "unclear_lines": [2, 3], "open": [{"match": "limit", "count": 5}]}),
+        (["R"], {"R": GATEWAY}, b"# Is the gateway reached?\n" + LOGIN, 1, told(
+            coverage(3, 1, 1, 1, 0), rule("INPUT", 1, WEB, "covered"), rule("INPUT", 2, MAIL, "dead"), rule("INPUT", 3, NAMES, "missed", packet=NAME_PACKET))),
+        (["--steps", "0", "R"], {"R": WITHOUT}, LOGIN, 3, told(
+            coverage(2, 1, 0, 0, 1), rule("INPUT", 1, WEB, "covered"), rule("INPUT", 2, NAMES, "unclear"))),
+        (["R"], {"R": LIMITED}, b"", 1, told(coverage(4, 0, 3, 1, 0), *lived("missed"), open=OPEN)),
+        (["R"], {"R": LIMITED}, LOGIN, 0, told(
+            counted("rules covered covered_if missed dead unclear", 4, 3, 3, 0, 1, 0), *lived("covered", packet=False), open=OPEN)),
+        (["--steps", "24", "R"], {"R": JUMPS}, b"\n" + LOGIN + LOGIN, 1, told(
+            coverage(7, 0, 1, 0, 6), *(waiting(number) for number in range(1, 6)), rule("INPUT", 6, "-j ACCEPT", "unclear"),
+            rule("a", 1, "-s 10.0.0.1/32 -j DROP", "missed", answers=waiting(1)["needs"], packet=TCP_PACKET.replace("192.0.2.1", "10.0.0.1")),
+            unclear_lines=[2, 3], open=[{"match": "limit", "count": 5}])),
     ],
     "reach": [
-        (["R", "INPUT", "in=eth0", "proto=tcp", "frag=0", "by=dport"], {"R": GATEWAY}, b"", 0, {
-            "field": "dport", "outcomes": [
-                {"verdict": "ACCEPT", "by": step("INPUT", 1), "numbers": "22:25"},
-                {"verdict": "DROP", "by": {"policy": "INPUT"}, "numbers": "not 22:25"}]}),
-        (["R", "FORWARD", "by=ttl"], {"R": ruleset(b"FORWARD -j REJECT --reject-with icmp-admin-prohibited")}, b"", 0, {
-            "field": "ttl", "outcomes": [{"verdict": "REJECT icmp-admin-prohibited", "by": step("FORWARD", 1), "numbers": "all"}]}),
+        (["R", "INPUT", "in=eth0", "proto=tcp", "frag=0", "by=dport"], {"R": GATEWAY}, b"", 0, {"field": "dport", "outcomes": [
+            {"verdict": "ACCEPT", "by": step("INPUT", 1), "numbers": "22:25"}, {"verdict": "DROP", "by": {"policy": "INPUT"}, "numbers": "not 22:25"}]}),
+        (["R", "FORWARD", "by=ttl"], {"R": ruleset(b"FORWARD -j REJECT --reject-with icmp-admin-prohibited")}, b"", 0, {"field": "ttl", "outcomes": [
+            {"verdict": "REJECT icmp-admin-prohibited", "by": step("FORWARD", 1), "numbers": "all"}]}),
         (["--steps", "1", "R", "INPUT", "by=ct"], {"R": GATEWAY}, b"", 3, {"field": "ct", "unclear": True}),
     ],
     "walk": [
-        (["R"], {"R": GATEWAY}, LOGIN + b"# all\n", 0, {
-            "packets": [{"packet": LOGIN.decode().strip(), "walks": [{"verdict": "ACCEPT", "by": step("INPUT", 1)}]}]}),
-        (["R"], {"R": LIMITED}, LOGIN, 0, {
-            "packets": [{"packet": LOGIN.decode().strip(), "walks": [
-                {"answers": [HERE, limited(2)], "verdict": "ACCEPT", "by": step("a", 2)},
-                {"answers": [HERE, limited(2, False)], "verdict": "DROP", "by": {"policy": "INPUT"}},
-                {"answers": [NOT_HERE], "verdict": "DROP", "by": {"policy": "INPUT"}}]}],
-            "open": OPEN}),
-        (["--steps", "0", "R"], {"R": LIMITED}, LOGIN, 3, {"packets": [{"packet": LOGIN.decode().strip(), "unclear": True}], "open": OPEN}),
+        (["R"], {"R": GATEWAY}, LOGIN + b"# all\n", 0, of_login(walks=[{"verdict": "ACCEPT", "by": step("INPUT", 1)}])),
+        (["R"], {"R": LIMITED}, LOGIN, 0, {**of_login(walks=[
+            {"answers": [HERE, limited(2)], "verdict": "ACCEPT", "by": step("a", 2)},
+            {"answers": [HERE, limited(2, False)], "verdict": "DROP", "by": {"policy": "INPUT"}},
+            {"answers": [NOT_HERE], "verdict": "DROP", "by": {"policy": "INPUT"}}]), "open": OPEN}),
+        (["--steps", "0", "R"], {"R": LIMITED}, LOGIN, 3, {**of_login(unclear=True), "open": OPEN}),
         (["R"], {"R": LIMITED}, b"", 0, {"packets": [], "open": OPEN}),
     ],
 }
-
-
-def document_of(question, document):
-    """A document as the program writes it."""
-    return json.dumps({"question": question, **document}, separators=(",", ":"), ensure_ascii=False).encode() + b"\n"
 
 
 def document_rows():
     for question, table in DOCUMENTS.items():
         for words, files, given, status, document in table:
             words = [question, "--json", *words]
-            told = b"".join(b"line %d: unclear\n" % number for number in document.get("unclear_lines", ()))
-            yield Row(" ".join(words), words, files, document_of(question, document), status, told, given)
+            text = json.dumps({"question": question, **document}, separators=(",", ":"), ensure_ascii=False)
+            messages = b"".join(b"line %d: unclear\n" % number for number in document.get("unclear_lines", ()))
+            yield Row(" ".join(words), words, files, text.encode() + b"\n", status, messages, given)
     yield Row("cover --json, a line that is no packet", ["cover", "--json", "R"], {"R": GATEWAY}, b"", 2, b"line 1: S1 unknown line\n", b"boom")
 
 
@@ -257,5 +226,4 @@ def test_document(row, iptaudit):
 
 def schema_rows():
     """The words, the files, standard input and the status of each, for tests/commands/schemas."""
-    return [([question, "--json", *words], files, given, status)
-            for question, table in DOCUMENTS.items() for words, files, given, status, _ in table]
+    return [([question, "--json", *words], files, given, status) for question, table in DOCUMENTS.items() for words, files, given, status, _ in table]

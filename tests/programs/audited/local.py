@@ -2,6 +2,7 @@
 
 import ipaddress
 
+from tests.programs.audited.rulesets import SAME
 from tests.shared.rows import Row, each
 
 TYPES = ("LOCAL", "BROADCAST", "MULTICAST")
@@ -18,11 +19,9 @@ def type_of(address, machine):
     interfaces = [ipaddress.ip_interface(text) for text in (*machine, "127.0.0.1/8")]
     given = ipaddress.ip_address(address)
     ends = [each.network.broadcast_address for each in interfaces if each.network.prefixlen < 31]
-    if address in ("0.0.0.0", "255.255.255.255"):
-        return "BROADCAST"
     if given.is_multicast:
         return "MULTICAST"
-    if given in ends:
+    if given in ends or address in ("0.0.0.0", "255.255.255.255"):
         return "BROADCAST"
     return "LOCAL" if given in [each.ip for each in interfaces] or given in ipaddress.ip_network("127.0.0.0/8") else None
 
@@ -36,15 +35,10 @@ ADDRESSES = ("0.0.0.0", "0.0.0.1", "1.2.3.4", "1.2.3.5", "10.0.0.0", "10.0.0.1",
              "255.255.255.253", "255.255.255.254", "255.255.255.255")
 
 
-def packet(option, address):
-    """The line of a packet with this address."""
-    src, dst = (address, "192.0.2.77") if option == "src" else ("192.0.2.77", address)
-    return f"packet INPUT src={src} dst={dst} in=eth0 proto=udp sport=1 dport=2\n"
-
-
 def walk_row(option, machine, lines, end):
     """The row of the walks of packets with each of the addresses; `end` says what is due of a type."""
-    given = [packet(option, address) for address in ADDRESSES]
+    hosts = [{"src": "192.0.2.77", "dst": "192.0.2.77", option: address} for address in ADDRESSES]
+    given = ["packet INPUT src={src} dst={dst} in=eth0 proto=udp sport=1 dport=2\n".format(**host) for host in hosts]
     due = [f"{line}  {end(type_of(address, machine))}\n" for line, address in zip(given, ADDRESSES)]
     return Row(f"--local {machine}: {lines}", ["walk", "--local", ",".join(machine), "R"], {"R": dump(lines)}, "".join(due).encode(), 0,
                input="".join(given).encode())
@@ -64,6 +58,7 @@ def type_rows():
 # Rules that ask more than one type, or another one: these conditions stay open.
 OPEN = dump([f"-m addrtype {words} -j ACCEPT" for words in (
     "--dst-type LOCAL --limit-iface-in", "--dst-type LOCAL,MULTICAST", "--src-type UNICAST", "--src-type LOCAL --dst-type LOCAL", "! --dst-type MULTICAST")])
+DEAD = b"dead INPUT 2 -A INPUT -d 127.0.0.1/32 -j DROP\n  taken by INPUT 1 (ACCEPT)\n2 rules, 1 dead, 0 unclear\n0 redundant, 1 shadowed\n"
 PLAIN = dump(["-m addrtype --dst-type LOCAL -j ACCEPT", "-d 127.0.0.1 -j DROP"])
 
 
@@ -71,19 +66,16 @@ def local_rows():
     """What stays open, and addresses that can't be read."""
     yield Row("--local: what stays open", ["dead", "--local", "192.0.2.1/24", "R"], {"R": OPEN},
               b"5 rules, 0 dead, 0 unclear\n4 conditions open: addrtype 4\n", 0)
-    yield Row("--local: a dead rule", ["dead", "--local", "192.0.2.1", "R"], {"R": PLAIN},
-              b"dead INPUT 2 -A INPUT -d 127.0.0.1/32 -j DROP\n  taken by INPUT 1 (ACCEPT)\n2 rules, 1 dead, 0 unclear\n0 redundant, 1 shadowed\n", 1)
-    same = b"INPUT same\nFORWARD same\nOUTPUT same\n"
+    yield Row("--local: a dead rule", ["dead", "--local", "192.0.2.1", "R"], {"R": PLAIN}, DEAD, 1)
     yield Row("--local: compare", ["compare", "--local", "192.0.2.1", "O", "N"],
               {"O": PLAIN, "N": dump(["-m iprange --dst-range 127.0.0.0-127.255.255.254 -j ACCEPT", "-d 192.0.2.1 -j ACCEPT"])},
-              same + b"4 changed rules, 1 dead, 0 unclear\n", 0)
+              SAME + b"4 changed rules, 1 dead, 0 unclear\n", 0)
     yield Row("--local: an answer to what is known", ["dead", "--local", "192.0.2.1", "--when", "addrtype --dst-type LOCAL", "R"], {"R": PLAIN},
               b"", 2, b"iptaudit: no rule has this condition: addrtype --dst-type LOCAL\n")
     for words in ("", "x", "192.0.2.1,", "192.0.2.1/33", "192.0.2.256", "eth0", "192.0.2.1/24/24", "192.0.2.1 /24"):
         yield Row(f"--local {words!r}", ["dead", "--local", words, "R"], {"R": PLAIN}, b"", 2, f"iptaudit: no addresses: {words}\n".encode())
     most = ",".join(f"10.0.{number}.1/24" for number in range(8))
-    yield Row("--local: the most addresses", ["dead", "--local", most, "R"], {"R": PLAIN},
-              b"dead INPUT 2 -A INPUT -d 127.0.0.1/32 -j DROP\n  taken by INPUT 1 (ACCEPT)\n2 rules, 1 dead, 0 unclear\n0 redundant, 1 shadowed\n", 1)
+    yield Row("--local: the most addresses", ["dead", "--local", most, "R"], {"R": PLAIN}, DEAD, 1)
     yield Row("--local: more", ["dead", "--local", f"{most},10.1.0.1", "R"], {"R": PLAIN}, b"", 2, f"iptaudit: more than 8 addresses: {most},10.1.0.1\n".encode())
 
 

@@ -2,9 +2,7 @@
 its answers are written.
 """
 
-import os
-
-from tests import ROOT
+from tests.shared import read
 from tests.shared.numbering import numbered
 from tests.shared.row_files import rows_in
 
@@ -22,8 +20,7 @@ def ruleset(policy, rules):
 
 def office(suffix):
     """A file of the example of an office."""
-    with open(os.path.join(ROOT, "examples", "office." + suffix), "rb") as file:
-        return file.read()
+    return read("examples", "office." + suffix)
 
 
 def named(rules):

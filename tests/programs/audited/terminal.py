@@ -11,24 +11,19 @@ from tests.shared.rows import same
 CHAINS, TARGETS = (b"INPUT", b"FORWARD", b"OUTPUT"), (b"ACCEPT", b"ACCEPT", b"ACCEPT")
 
 
-def read_to_end(lead):
-    """What a terminal shows up to the word END: it comes in parts, as the kernel hands it over."""
-    said = b""
-    while not said.endswith(b"END"):
-        said += os.read(lead, 4096)
-    return said.removesuffix(b"END")
-
-
 def is_told(iptaudit, words, files, answer, questions):
     """Runs the program at a terminal, and compares its answer and what the terminal shows: whether it shows anything."""
     lead, end = os.openpty()
     ended = iptaudit.run(words, files, stderr=end)
     os.write(end, b"END")
     os.close(end)
-    said = read_to_end(lead)
+    # What the terminal shows comes in parts, as the kernel hands it over.
+    said = b""
+    while not said.endswith(b"END"):
+        said += os.read(lead, 4096)
     os.close(lead)
     due = [b"\riptaudit: question %d of %d" % (int(number), questions) for number in re.findall(rb"question (\d+) of", said)]
-    same((0, answer, b"".join(due) + b"\r\x1b[K" * bool(due)), (ended.returncode, ended.stdout, said))
+    same((0, answer, b"".join(due) + b"\r\x1b[K" * bool(due) + b"END"), (ended.returncode, ended.stdout, said))
     return bool(due)
 
 
