@@ -6,13 +6,12 @@ import signal
 
 import pytest
 
-from tests import ROOT
+from tests.shared import read
 from tests.shared.row_files import rows_in
-from tests.shared.rows import UNREAD, Row, each
+from tests.shared.rows import UNREAD, Row, each, section, written
 
 POLICIES = b":INPUT DROP [1:60]\n:FORWARD DROP [0:0]\n:OUTPUT ACCEPT [0:0]\n"
-LOADS = (b"# Generated\n*nat\n-A x -j MASQUERADE\nCOMMIT\n*filter\n" + POLICIES +
-         b":a - [0:0]\n\n[3:180] -A INPUT -p tcp --dport 22 -j a\nCOMMIT\n")
+LOADS = (b"# Generated\n*nat\n-A x -j MASQUERADE\nCOMMIT\n*filter\n" + POLICIES + b":a - [0:0]\n\n[3:180] -A INPUT -p tcp --dport 22 -j a\nCOMMIT\n")
 
 COPY = b" iptaudit reads the dump as it is; bin/fit writes a copy for trials in which it always matches, or never does, as you state."
 MEMORY = b"a stateful match: its result depends on earlier packets." + COPY
@@ -26,6 +25,7 @@ MULTIPORT = b"write its option in full: --sports, --dports or --ports."
 COMMAND = b"a line of a dump begins with its command, such as -A."
 CHAIN = b"no such chain: make it with a line `:NAME - [0:0]` above."
 TARGET = b"neither a chain nor a target of iptsim: make a chain with a line `:NAME - [0:0]` above."
+CANNOT_READ = b"check: cannot read %s\n"
 NO_PROGRAM = b"check: cannot run /nothing: No such file or directory; IPTSIM has to name the program\n"
 WHOLE = b"a section ends with the line COMMIT: is the file complete?"
 
@@ -55,6 +55,8 @@ OF_L = b"` begins a listing of `iptables -L`, which leaves parts of rules out: m
 REFUSED = b"*filter\n-A INPUT -m limit -j DROP\nCOMMIT\n"
 LIMIT = b" P7 unknown match: limit\n"
 OF_LIMIT = b"d: limit: " + MEMORY + b"\n"
+IN_SECOND = b"d:2:" + LIMIT + OF_LIMIT
+NO_TABLE = b" is no table of iptables, so its section is skipped: did you mean *filter?\n"
 # Whole files, and what is written about each: the number of the line where there is one, and what follows it. The last is
 # a sentence about words.
 FILES = [
@@ -77,26 +79,20 @@ FILES = [
     ("iptables -L of a chain", b"Chain a (1 references)\n", b"d:1: `Chain" + OF_L),
     ("another program", b"int main() {}\n", b"d:" + NO_SECTION),
     ("carriage returns", LOADS.replace(b"\n", b"\r\n"), b"d:2: *nat" + RETURNS),
-    ("carriage returns, and a refused line",
-     REFUSED.replace(b"\n", b"\r\n"), b"d:1: *filter" + RETURNS + b"d:2:" + LIMIT + OF_LIMIT),
+    ("carriage returns, and a refused line", REFUSED.replace(b"\n", b"\r\n"), b"d:1: *filter" + RETURNS + IN_SECOND),
     ("a carriage return after COMMIT", b"*nat\nCOMMIT\r\n*filter\nCOMMIT\n", b"d:2: COMMIT" + RETURNS),
     ("carriage returns alone", b"*filter\rCOMMIT\r",
-     rb"d:1: *filter\rCOMMIT ends in a carriage return, so a section is skipped: remove them with `sed -i 's/\r$//'`." + b"\n" +
-     b"d:1: *filter\\rCOMMIT is no table of iptables, so its section is skipped: did you mean *filter?\n"
+     rb"d:1: *filter\rCOMMIT" + RETURNS + rb"d:1: *filter\rCOMMIT" + NO_TABLE +
      b"d:1: R4 end before COMMIT: *filter\\rCOMMIT\nd: *filter\\rCOMMIT: " + WHOLE + b"\n"),
-    ("a form feed after the name", b"*filter\x0c\n" + LOADS[LOADS.index(b":INPUT"):],
-     b"d:1: *filter\\x0c is no table of iptables, so its section is skipped: did you mean *filter?\n"),
+    ("a form feed after the name", b"*filter\x0c\n" + LOADS[LOADS.index(b":INPUT"):], b"d:1: *filter\\x0c" + NO_TABLE),
     ("a carriage return in a comment line", b"# x\r\n*filter\nCOMMIT\n", b""),
-    ("a name in upper case", REFUSED.replace(b"filter", b"FILTER"),
-     b"d:1: *FILTER is no table of iptables, so its section is skipped: did you mean *filter?\nd:2:" + LIMIT + OF_LIMIT),
-    ("a misspelt name", b"*fliter\n" + POLICIES + b"COMMIT\n",
-     b"d:1: *fliter is no table of iptables, so its section is skipped: did you mean *filter?\n"),
+    ("a name in upper case", REFUSED.replace(b"filter", b"FILTER"), b"d:1: *FILTER" + NO_TABLE + IN_SECOND),
+    ("a misspelt name", b"*fliter\n" + POLICIES + b"COMMIT\n", b"d:1: *fliter" + NO_TABLE),
     ("another name", b"*broute\n-A x\nCOMMIT\n" + LOADS, b"d:1: *broute is no table of iptables, so its section is skipped.\n"),
     ("a blank in the name", b"* filter\nCOMMIT\n", b"d:1: R1 line not allowed here: *\n"),
-    ("a word after the name", b"*filter x\n-A INPUT -m limit\nCOMMIT\n",
-     b"d:1: R1 line not allowed here: *filter\nd:2:" + LIMIT + OF_LIMIT),
+    ("a word after the name", b"*filter x\n-A INPUT -m limit\nCOMMIT\n", b"d:1: R1 line not allowed here: *filter\n" + IN_SECOND),
     ("a byte order mark", b"\xef\xbb\xbf" + LOADS, b"d:1:" + MARK),
-    ("a byte order mark before the section", b"\xef\xbb\xbf" + REFUSED, b"d:1:" + MARK + b"d:2:" + LIMIT + OF_LIMIT),
+    ("a byte order mark before the section", b"\xef\xbb\xbf" + REFUSED, b"d:1:" + MARK + IN_SECOND),
     ("a byte order mark and carriage returns", b"\xef\xbb\xbf*filter\r\nCOMMIT\r\n", b"d:1:" + MARK + b"d:1: *filter" + RETURNS),
     ("UTF-16 with a mark", LOADS.decode().encode("utf-16"), b"d:" + UTF_16),
     ("UTF-16, high bytes first", b"\xfe\xff" + LOADS.decode().encode("utf-16-be"), b"d:" + UTF_16),
@@ -108,8 +104,7 @@ FILES = [
       for words in (b"! -s 2001:db8::/32", b"--source ::1", b"--destination \"fe80::1\"", b"-m iprange --src-range fe80::1-fe80::9",
                     b"-d ::ffff:1.2.3.4/128", b"-m  hl --hl-eq 255", b"--match rt", b"-m frag --fragmore")),
     ("ip6tables by a type of REJECT", b"*filter\n-A INPUT -j REJECT --reject-with icmp6-port-unreachable\nCOMMIT\n", b"d:" + IPV6),
-    ("words as of ip6tables in a comment",
-     b"*filter\n# -m icmp6\n-A INPUT -m comment --comment \"no -m icmp6 or -s fe80::1 here\" -j DROP\nCOMMIT\n", b""),
+    ("words as of ip6tables in a comment", section(b"# -m icmp6", b"-A INPUT -m comment --comment \"no -m icmp6 or -s fe80::1 here\" -j DROP"), b""),
     ("the protocol alone", b"*filter\n-A INPUT -p ipv6-icmp -j ACCEPT\nCOMMIT\n", b""),
     ("a session", b"# Rules\niptables -A INPUT -j DROP\n", b"d:2: `iptables" + OF_SESSION),
     ("packets", b"packet INPUT src=1.2.3.4 dst=1.2.3.4 proto=47\n", b"d:1: `packet" + OF_SESSION),
@@ -124,12 +119,25 @@ FILES = [
     ("COMMIT in lower case", b"*filter\ncommit\n*nat\nCOMMIT\n", b"d:2: C1 no command: commit\n"),
     ("lines outside of sections", b"COMMIT\n" + REFUSED + b"-A INPUT -m \"x\n",
      b"d:1: R1 line not allowed here: COMMIT\nd:3:" + LIMIT + b"d:5: R5 bad quoting: \"x\nd: limit: " + MEMORY + b"\n"),
-    ("sections that begin anew",
-     b"*filter\n:a - [0:0]\nCOMMIT\n*filter\n:a - [0:0]\n:b -\n-A INPUT -j a\nCOMMIT\n*filter\n-A INPUT -j a\nCOMMIT\n",
+    ("sections that begin anew", section(b":a - [0:0]") + section(b":a - [0:0]", b":b -", b"-A INPUT -j a") + section(b"-A INPUT -j a"),
      b"d:10: T11 target chain missing: a\nd: a: " + TARGET + b"\n"),
-    ("a chain that is made by a line which is badly quoted or too long",
-     b"*filter\n:a - \"\n:b " + b" " * 10240 + b"-\n-A a -j b\nCOMMIT\n",
+    ("a chain that is made by a line which is badly quoted or too long", section(b":a - \"", b":b " + b" " * 10240 + b"-", b"-A a -j b"),
      b"d:2: R5 bad quoting: \"\nd:3: R6 line too long: 10244 bytes\n"),
+]
+
+
+# Rules for IPv6 alone, which iptables-restore passes over: the option where an option may stand, and not a value. What is written about each dump, and
+# which is the first such rule, if there is one, and whether there is one more.
+SIX = b"check: %s: a rule for IPv6 only%s: skipped, as by iptables-restore, but bin/iptsim refuses it; bin/fit removes it\n"
+SIX_FILES = [
+    ("a rule for IPv6", section(b"-A INPUT -6 -j DROP"), b"", SIX % (b"d:2", b"")),
+    ("rules for both", section(b"-A INPUT -s fe80::/10 --ipv6", b"-A INPUT -j DROP", b"[1:2] -A INPUT -p icmpv6 -m icmp6 -6"), b"",
+     SIX % (b"d:2", b", and 1 more")),
+    ("before the command", section(b"-6 -A INPUT -j DROP", b"[1:2] --ipv6 -A INPUT -j DROP"), b"", SIX % (b"d:2", b", and 1 more")),
+    ("one beside a fault", section(b"-A INPUT -6 -j NOTHING", b"-A INPUT -m limit"), b"d:3:" + LIMIT + OF_LIMIT, SIX % (b"d:2", b"")),
+    ("values and words", section(b"-A INPUT -m comment --comment -6", b"-A INPUT -m comment --comment \"x -6\"", b"-A INPUT -j LOG --log-prefix --ipv6"), b"", b""),
+    ("in another place", b"-A INPUT -6\n*nat\n-A x -6\nCOMMIT\n" + LOADS, b"d:1: R1 line not allowed here: -A\n", b""),
+    ("rules for IPv4", section(b"-A INPUT -4 -j DROP"), b"d:2: P1 unknown option: -4\nd: -4: " + OPTION + b"\n", b""),
 ]
 
 
@@ -140,47 +148,39 @@ def long_rule(length, end):
     return line % (b" " * blanks, b",ACK" * flags)
 
 
-def long_rows():
-    """Lines of 10,240 bytes are read, and those of one more aren't."""
-    fits = long_rule(10240, b" -j DROP")
-    over = b"#" + b"x" * 10240
-    lines = [b"*nat", over[1:], b"COMMIT", b"*filter", fits, over[:-1], b"COMMIT"]
-    yield Row("long lines that load", ["d"], {"d": b"\n".join(lines)}, b"", 0)
+def large_files():
+    """Lines of 10,240 bytes, which are read, and of one more; a full chain, and more chains than a table has; many words of one kind: eight are named."""
+    fits, over = long_rule(10240, b" -j DROP"), b"#" + b"x" * 10240
+    yield "long lines that load", b"\n".join([b"*nat", over[1:], b"COMMIT", b"*filter", fits, over[:-1], b"COMMIT"]), b""
     lines = [b"*nat", over, b"COMMIT", over, b"*filter", over, long_rule(10240, b" -m limit"), long_rule(10240, b"  -j QUEUE"), fits + b" ",
              long_rule(10240, b" -m mark"), long_rule(9000, b"X"), b"-A INPUT -j nowhere", b"COMMIT"]
-    yield Row("long lines that don't", ["d"], {"d": b"\n".join(lines)},
-              b"d:2: R6 line too long: 10241 bytes\nd:4: R6 line too long: 10241 bytes\nd:6: R6 line too long: 10241 bytes\nd:7:" + LIMIT +
-              b"d:8: P3 bad value: QUEUE\nd:9: R6 line too long: 10241 bytes\nd:10: P7 unknown match: mark\n"
-              b"d:11: P3 bad value: SYNX\nd:12: T11 target chain missing: nowhere\n"
-              b"d: limit: " + MEMORY + b"\nd: mark: " + UNKNOWN + b"\nd: nowhere: " + TARGET + b"\n", 1)
-
-
-def large_rows():
-    """A full chain, and more chains than a table has."""
+    yield ("long lines that don't", b"\n".join(lines),
+           b"d:2: R6 line too long: 10241 bytes\nd:4: R6 line too long: 10241 bytes\nd:6: R6 line too long: 10241 bytes\nd:7:" + LIMIT +
+           b"d:8: P3 bad value: QUEUE\nd:9: R6 line too long: 10241 bytes\nd:10: P7 unknown match: mark\nd:11: P3 bad value: SYNX\n"
+           b"d:12: T11 target chain missing: nowhere\n" + OF_LIMIT + b"d: mark: " + UNKNOWN + b"\nd: nowhere: " + TARGET + b"\n")
     rules = [b"-A a"] * 8192
-    section = [b"*filter", b":a -", b"-A INPUT -m limit", *rules, b"-A a -j DROP", b"COMMIT"]
-    yield Row("a full chain", ["d"], {"d": b"\n".join(section)},
-              b"d:3:" + LIMIT + b"d:8196: T14 chain full: a (8,193 rules, of 8,192 at most)\nd: limit: " + MEMORY + b"\n", 1)
+    yield ("a full chain", section(b":a -", b"-A INPUT -m limit", *rules, b"-A a -j DROP"),
+           b"d:3:" + LIMIT + b"d:8196: T14 chain full: a (8,193 rules, of 8,192 at most)\n" + OF_LIMIT)
     # Each chain of each section has a line of its own, whatever stands between.
-    over = [b"-A a -j DROP", b"-I a 1", b"-A INPUT -j nowhere", b"-A a"]
-    section = [b"*filter", b":a -", *rules, *over, b"COMMIT"]
-    yield Row("full chains", ["d"], {"d": b"\n".join([*section, *section])},
-              b"d:8195: T14 chain full: a (8,195 rules, of 8,192 at most)\nd:8197: T11 target chain missing: nowhere\n"
-              b"d:16394: T14 chain full: a (8,195 rules, of 8,192 at most)\nd:16396: T11 target chain missing: nowhere\n"
-              b"d: nowhere: " + TARGET + b"\n", 1)
-    chains = [b":c%d - [0:0]" % number for number in range(1026)]
-    yield Row("too many chains", ["d"], {"d": b"\n".join([b"*filter", *chains, b"-A c1023 -j c1024", b"-A c1025 -j c1", b"COMMIT"])},
-              b"d:1026: T15 too many chains: :c1024\nd:1027: T15 too many chains: :c1025\n", 1)
-
-
-def alike_rows():
-    """Many words of one kind: eight are named."""
+    yield ("full chains", section(b":a -", *rules, b"-A a -j DROP", b"-I a 1", b"-A INPUT -j nowhere", b"-A a") * 2,
+           b"d:8195: T14 chain full: a (8,195 rules, of 8,192 at most)\nd:8197: T11 target chain missing: nowhere\n"
+           b"d:16394: T14 chain full: a (8,195 rules, of 8,192 at most)\nd:16396: T11 target chain missing: nowhere\nd: nowhere: " + TARGET + b"\n")
+    yield ("too many chains", section(*(b":c%d - [0:0]" % number for number in range(1026)), b"-A c1023 -j c1024", b"-A c1025 -j c1"),
+           b"d:1026: T15 too many chains: :c1024\nd:1027: T15 too many chains: :c1025\n")
     for count in (8, 9, 10):
         names = [b"name%d" % number for number in range(count)]
         due = b"".join(b"d:%d: P3 bad value: %s\n" % (number, name) for number, name in enumerate(names, 2))
         told = b", ".join(names[:8]) + (b", .." if count > 8 else b"")
-        yield Row(f"{count} words", ["d"], {"d": b"*filter\n" + b"".join(b"-A INPUT -s %s -j DROP\n" % name for name in names) + b"COMMIT\n"},
-                  due + b"d: " + told + b": " + ADDRESS + b"\n", 1)
+        yield f"{count} words", section(*(b"-A INPUT -s %s -j DROP" % name for name in names)), due + b"d: " + told + b": " + ADDRESS + b"\n"
+
+
+def file_rows():
+    """All lines in one dump, and each whole file."""
+    told = [b"d:%d: %s\n" % (number, text) for number, (_, texts) in enumerate(LINES, 2) for text in texts]
+    told += [b"d: %s: %s\n" % pair for pair in ADVICE_OF_LINES]
+    lines = ("all lines", section(*(line for (line,), _ in LINES)), b"".join(told))
+    for about, data, output, *messages in [lines, *FILES, *SIX_FILES, *large_files()]:
+        yield Row(about, ["d"], {"d": data}, output, 1 if output else 0, *messages)
 
 
 def word_rows():
@@ -190,18 +190,17 @@ def word_rows():
     yield Row("several files", ["bad", "good", "two words"], files, b"bad" + refused % b"bad" + b"two words" + refused % b"two words", 1)
     yield Row("a name with `-`", ["--", "-x"], files, b"-x" + refused % b"-x", 1)
     yield Row("a name that is no text", [b"\xff"], files, b"\xff" + refused % b"\xff", 1)
-    yield Row("a missing file among others", ["bad", "nothing", "good"], files, b"bad" + refused % b"bad", 2,
-              b"check: cannot read nothing: No such file or directory\n")
-    yield Row("a folder", ["."], files, b"", 2, b"check: cannot read .: Is a directory\n")
-    yield Row("an empty name", [""], files, b"", 2, b"check: cannot read : No such file or directory\n")
-    yield Row("a pipe", ["/dev/stdin"], files, b"/dev/stdin:2:" + LIMIT + b"/dev/stdin: limit: " + MEMORY + b"\n", 1, input=REFUSED)
+    yield Row("a missing file among others", ["bad", "nothing", "good"], files, b"bad" + refused % b"bad", 2, CANNOT_READ % b"nothing: No such file or directory")
+    yield Row("a folder", ["."], files, b"", 2, CANNOT_READ % b".: Is a directory")
+    yield Row("an empty name", [""], files, b"", 2, CANNOT_READ % b": No such file or directory")
+    yield Row("a pipe", ["/dev/stdin"], files, b"/dev/stdin" + refused % b"/dev/stdin", 1, input=REFUSED)
     usage = b"usage: check [-h] [--session] [--load DUMP] [--json] FILE [FILE ...]\ncheck: error: "
     needed = usage + b"the following arguments are required: FILE\n"
     yield Row("no words", [], {}, b"", 2, needed)
     yield Row("a name with `-` without `--`", ["-x"], files, b"", 2, needed)
     yield Row("--load without --session", ["--load", "good", "bad"], files, b"", 2, usage + b"--load goes with --session\n")
-    yield Row("standard input", ["good", "-"], files, b"-:2:" + LIMIT + b"-: limit: " + MEMORY + b"\n", 1, input=REFUSED)
-    yield Row("no standard input", ["-"], files, b"", 2, b"check: cannot read -: Bad file descriptor\n", input=None)
+    yield Row("standard input", ["good", "-"], files, b"-" + refused % b"-", 1, input=REFUSED)
+    yield Row("no standard input", ["-"], files, b"", 2, CANNOT_READ % b"-: Bad file descriptor", input=None)
     yield Row("a closed pipe", ["bad"], files, b"", -signal.SIGPIPE, stdout=UNREAD)
     yield Row("a closed pipe, and help", ["--help"], files, b"", -signal.SIGPIPE, stdout=UNREAD, variables={"PYTHONUNBUFFERED": None})
     yield Row("a full device", ["bad"], files, b"", 2, b"check: output failed\n", stdout="/dev/full")
@@ -210,29 +209,8 @@ def word_rows():
               variables={"IPTSIM": "/bin/false"})
 
 
-SIX = b"check: %s: a rule for IPv6 only%s: skipped, as by iptables-restore, but bin/iptsim refuses it; bin/fit removes it\n"
-
-
-def six_rows():
-    """Rules for IPv6 alone, which iptables-restore passes over: the option where an option may stand, and not a value."""
-    def dump(*lines):
-        return {"d": b"".join(line + b"\n" for line in (b"*filter", *lines, b"COMMIT"))}
-
-    yield Row("a rule for IPv6", ["d"], dump(b"-A INPUT -6 -j DROP"), b"", 0, SIX % (b"d:2", b""))
-    yield Row("rules for both", ["d"], dump(b"-A INPUT -s fe80::/10 --ipv6", b"-A INPUT -j DROP", b"[1:2] -A INPUT -p icmpv6 -m icmp6 -6"), b"", 0,
-              SIX % (b"d:2", b", and 1 more"))
-    yield Row("before the command", ["d"], dump(b"-6 -A INPUT -j DROP", b"[1:2] --ipv6 -A INPUT -j DROP"), b"", 0, SIX % (b"d:2", b", and 1 more"))
-    yield Row("one beside a fault", ["d"], dump(b"-A INPUT -6 -j NOTHING", b"-A INPUT -m limit"), b"d:3:" + LIMIT + OF_LIMIT, 1,
-              SIX % (b"d:2", b""))
-    yield Row("values and words", ["d"], dump(b"-A INPUT -m comment --comment -6", b"-A INPUT -m comment --comment \"x -6\"",
-                                              b"-A INPUT -j LOG --log-prefix --ipv6"), b"", 0)
-    yield Row("in another place", ["d"], {"d": b"-A INPUT -6\n*nat\n-A x -6\nCOMMIT\n" + LOADS}, b"d:1: R1 line not allowed here: -A\n", 1)
-    yield Row("rules for IPv4", ["d"], dump(b"-A INPUT -4 -j DROP"), b"d:2: P1 unknown option: -4\nd: -4: " + OPTION + b"\n", 1)
-
-
 def of_json(files, loading, faults):
-    """The document of these files."""
-    return json.dumps({"files": files, "counts": {"files": len(files), "loading": loading, "faults": faults}}, indent=2).encode() + b"\n"
+    return written({"files": files, "counts": {"files": len(files), "loading": loading, "faults": faults}})
 
 
 def file_of_json(name, faults=(), advice=(), passed=(), loads=False, error=None):
@@ -243,14 +221,15 @@ def file_of_json(name, faults=(), advice=(), passed=(), loads=False, error=None)
 
 def json_rows():
     """Documents, which the schema allows, and wrong ones, which it doesn't."""
-    files = {"good": LOADS, "empty": b"", "six": b"*filter\n-A x -6\nCOMMIT\n", "d\udcff": b"*filter\n-A INPUT -j A\xff\x01\xc3\xa4" + b"x" * 90 +
-             b"\n-A INPUT -m limit\nCOMMIT\n", "s": b"packet input\niptables -A INPUT -j ACEPT\npacket INPUT ct=NEW ct=NEW\n"}
+    odd = section(b"-A INPUT -j A\xff\x01\xc3\xa4" + b"x" * 90, b"-A INPUT -m limit")
+    session = b"packet input\niptables -A INPUT -j ACEPT\npacket INPUT ct=NEW ct=NEW\n"
+    files = {"good": LOADS, "empty": b"", "six": section(b"-A x -6"), "d\udcff": odd, "s": session}
     faults = [(2, "P3", "bad value", "A\\xff\x01ä" + "x" * 90, None, None), (3, "P7", "unknown match", "limit", None, None)]
     due = [file_of_json("good", loads=True), file_of_json("empty", [(None, None, EMPTY.decode().strip(), None, None, None)]),
            file_of_json("six", passed=[2], loads=True), file_of_json("d\\xff", faults, [(["limit"], MEMORY.decode())]),
            file_of_json("nothing", error="cannot read nothing: No such file or directory")]
     yield Row("dumps as JSON", ["--json", *(os.fsencode(name) for name in files if name != "s"), "nothing"], files, of_json(due, 2, 3), 2,
-              b"check: cannot read nothing: No such file or directory\n")
+              CANNOT_READ % b"nothing: No such file or directory")
     of_session = [(1, "F1", "unknown hook", "input", None, "INPUT"), (2, "T11", "target chain missing", "ACEPT", None, "ACCEPT"),
                   (3, "F3", "bad packet value", "ct=NEW", "ct is given twice", None)]
     yield Row("a session as JSON", ["--json", "--session", "s"], files, of_json([file_of_json("s", of_session)], 0, 3), 1)
@@ -258,17 +237,7 @@ def json_rows():
     yield Row("no program for JSON", ["--json", "good"], files, b"", 2, NO_PROGRAM, variables={"IPTSIM": "/nothing"})
 
 
-def line_rows():
-    """All lines in one dump, and each whole file."""
-    data = b"*filter\n" + b"".join(line + b"\n" for (line,), _ in LINES) + b"COMMIT\n"
-    due = [b"d:%d: %s\n" % (number, text) for number, (_, told) in enumerate(LINES, 2) for text in told]
-    due += [b"d: %s: %s\n" % pair for pair in ADVICE_OF_LINES]
-    yield Row("all lines", ["d"], {"d": data}, b"".join(due), 1)
-    for about, data, output in FILES:
-        yield Row(about, ["d"], {"d": data}, output, 1 if output else 0)
-
-
-@each(line_rows, long_rows, large_rows, alike_rows, six_rows, json_rows, word_rows)
+@each(file_rows, json_rows, word_rows)
 def test_check(row, command):
     command("check").check(row)
 
@@ -276,13 +245,10 @@ def test_check(row, command):
 def test_schema():
     """The schema allows the documents that are due, and none that lacks a key or has another value."""
     jsonschema = pytest.importorskip("jsonschema")
-    documents = [json.loads(row.output) for row in json_rows() if row.output]
-    with open(os.path.join(ROOT, "docs", "schemas", "check.json"), encoding="utf-8") as file:
-        schema = json.load(file)
+    documents, schema = [json.loads(row.output) for row in json_rows() if row.output], json.loads(read("docs/schemas/check.json"))
     jsonschema.Draft202012Validator.check_schema(schema)
     validator = jsonschema.Draft202012Validator(schema)
-    wrong = [{}, {**documents[0], "more": 1}, {**documents[0], "counts": {}}, {**documents[0], "files": [{"file": "d"}]},
-             {**documents[0], "files": [file_of_json("d", [(0, "P3", "bad value", "x", None, None)])]},
-             {**documents[0], "files": [file_of_json("d", [(1, "3", "bad value", "x", None, None)])]},
-             {**documents[0], "files": [file_of_json("d", advice=[([], "x")])]}]
+    files = [{"file": "d"}, file_of_json("d", [(0, "P3", "bad value", "x", None, None)]), file_of_json("d", [(1, "3", "bad value", "x", None, None)]),
+             file_of_json("d", advice=[([], "x")])]
+    wrong = [{}, {**documents[0], "more": 1}, {**documents[0], "counts": {}}, *({**documents[0], "files": [file]} for file in files)]
     assert all(map(validator.is_valid, documents)) and not any(map(validator.is_valid, wrong))

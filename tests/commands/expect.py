@@ -1,13 +1,14 @@
 """bin/expect on rows of rulesets and packets: what it writes and its status, to the byte."""
 
-import json
 import os
 import pathlib
 
 import pytest
 
 from tests import ROOT
-from tests.shared.rows import Row, each, same
+from tests.commands import LONG_WALK
+from tests.shared import read
+from tests.shared.rows import Row, each, outcome, same, written
 
 RULES = [
     b"-A INPUT -i lo -j ACCEPT",
@@ -36,43 +37,28 @@ SKIPPED = b" # SKIP no verdict is expected"
 INVALID = b"# A packet without ct is INVALID: packet %d has none, and it reached a rule that tests states, %s.\n"
 NO_FILTER = b"R has no section *filter that iptsim reads: bin/check says why"
 
-# A packet, what is due, and what comes where that is something else: the verdict and the rules that matched, by their names.
-PACKETS = [
-    (LOCAL, b"ACCEPT", None, [b"INPUT 1"]),
-    (LOCAL, b"ACCEPT by rule", None, [b"INPUT 1"]),
-    (LOCAL, b"ACCEPT by INPUT 1", None, [b"INPUT 1"]),
-    (LOCAL, b"ACCEPT by INPUT 2", b"ACCEPT by INPUT 1", [b"INPUT 1"]),
-    (LOCAL, b"ACCEPT by a 1", b"ACCEPT by INPUT 1", [b"INPUT 1"]),
-    (LOCAL, b"ACCEPT by policy", b"ACCEPT by INPUT 1", [b"INPUT 1"]),
-    (LOCAL, b"DROP", b"ACCEPT by INPUT 1", [b"INPUT 1"]),
-    (LOGIN, b"REJECT", None, [b"INPUT 3", b"a 1"]),
-    (LOGIN, b"REJECT tcp-reset", None, [b"INPUT 3", b"a 1"]),
-    (LOGIN, b"REJECT tcp-reset by a 1", None, [b"INPUT 3", b"a 1"]),
-    (LOGIN, b"REJECT by rule", None, [b"INPUT 3", b"a 1"]),
-    (LOGIN, b"REJECT icmp-port-unreachable", b"REJECT tcp-reset by a 1", [b"INPUT 3", b"a 1"]),
-    (LOGIN, b"REJECT by a 11", b"REJECT tcp-reset by a 1", [b"INPUT 3", b"a 1"]),
-    (LOGIN, b"DROP by a 1", b"REJECT tcp-reset by a 1", [b"INPUT 3", b"a 1"]),
-    (LOGIN, b"TOOLONG", b"REJECT tcp-reset by a 1", [b"INPUT 3", b"a 1"]),
-    (RETURNED, b"DROP by policy", None, [b"INPUT 3", b"a 2", b"INPUT 5"]),
-    (RETURNED, b"DROP", None, [b"INPUT 3", b"a 2", b"INPUT 5"]),
-    (RETURNED, b"DROP by rule", b"DROP by policy", [b"INPUT 3", b"a 2", b"INPUT 5"]),
-    (RETURNED, b"DROP by INPUT 5", b"DROP by policy", [b"INPUT 3", b"a 2", b"INPUT 5"]),
-    (OTHER, b"DROP by policy", None, [b"INPUT 4"]),
-    (THROUGH, b"DROP by FORWARD 1", None, [b"FORWARD 1"]),
-    (PAST, b"ACCEPT by policy", None, []),
-    (PAST, b"DROP", b"ACCEPT by policy", []),
+# Packets, the rules that matched, by their names, and the verdict; then what may be due, and what comes otherwise.
+VERDICTS = [
+    (LOCAL, [b"INPUT 1"], b"ACCEPT by INPUT 1",
+     [b"ACCEPT", b"ACCEPT by rule", b"ACCEPT by INPUT 1"], [b"ACCEPT by INPUT 2", b"ACCEPT by a 1", b"ACCEPT by policy", b"DROP"]),
+    (LOGIN, [b"INPUT 3", b"a 1"], b"REJECT tcp-reset by a 1",
+     [b"REJECT", b"REJECT tcp-reset", b"REJECT tcp-reset by a 1", b"REJECT by rule"],
+     [b"REJECT icmp-port-unreachable", b"REJECT by a 11", b"DROP by a 1", b"TOOLONG"]),
+    (RETURNED, [b"INPUT 3", b"a 2", b"INPUT 5"], b"DROP by policy", [b"DROP by policy", b"DROP"], [b"DROP by rule", b"DROP by INPUT 5"]),
+    (OTHER, [b"INPUT 4"], b"DROP by policy", [b"DROP by policy"], []),
+    (THROUGH, [b"FORWARD 1"], b"DROP by FORWARD 1", [b"DROP by FORWARD 1"], []),
+    (PAST, [], b"ACCEPT by policy", [b"ACCEPT by policy"], [b"DROP"]),
 ]
+# A packet, what is due, what comes where that is something else, and the rules that matched.
+PACKETS = [(packet, due, None if due in right else verdict, matched) for packet, matched, verdict, right, wrong in VERDICTS for due in right + wrong]
 
 # Lines that can't be read, and why.
+NO_VERDICT = b"the expected verdict can't be read: write ACCEPT, DROP by policy or DROP by CHAIN NUMBER"
 UNREADABLE = [
     (b"packet INPUT src=1.1.1.1 dst=2.2.2.2 proto=47 ->ACCEPT", b"a blank is missing after `->`"),
     (b"iptables -F -> ACCEPT", b"it is neither a packet line nor a comment"),
     (b"-> ACCEPT", b"it is neither a packet line nor a comment"),
-    (LOCAL + b" ->", b"the expected verdict can't be read: write ACCEPT, DROP by policy or DROP by CHAIN NUMBER"),
-    (LOCAL + b" -> accept", b"the expected verdict can't be read: write ACCEPT, DROP by policy or DROP by CHAIN NUMBER"),
-    (LOCAL + b" -> DROP by SERVERS", b"the expected verdict can't be read: write ACCEPT, DROP by policy or DROP by CHAIN NUMBER"),
-    (LOCAL + b" -> DROP by SERVERS 0", b"the expected verdict can't be read: write ACCEPT, DROP by policy or DROP by CHAIN NUMBER"),
-    (LOCAL + b" -> ACCEPT tcp-reset", b"the expected verdict can't be read: write ACCEPT, DROP by policy or DROP by CHAIN NUMBER"),
+    *((LOCAL + b" ->" + text, NO_VERDICT) for text in (b"", b" accept", b" DROP by SERVERS", b" DROP by SERVERS 0", b" ACCEPT tcp-reset")),
     (LOCAL + b" -> REJECT reset", b"reset is no type of REJECT"),
     (LOCAL + b" -> TOOLONG by policy", b"TOOLONG has no rule and no policy"),
 ]
@@ -93,31 +79,34 @@ def unmatched(names):
     return b"".join(b"# no packet matched %s: %s\n" % pair for pair in zip(NAMES, RULES) if pair[0] not in names)
 
 
-def of_packets(packets):
-    """What is written about packets of the table above: the packet's line in the file is its number."""
+def of_packets(packets, names_unmatched=True):
+    """What is written about packets of the table above, or about those of which nothing is due: the packet's line in the file is its number."""
     lines = [b"1..%d\n" % len(packets)]
     for number, (packet, due, came, matched) in enumerate(packets, 1):
-        lines.append(b"%sok %d - %s -> %s\n" % (b"not " if came else b"", number, packet.replace(b"#", b"\\#"), due))
+        lines.append(b"%sok %d - %s" % (b"not " if due and came else b"", number, packet.replace(b"#", b"\\#")))
+        lines.append((b" -> " + due if due else SKIPPED) + b"\n")
         if came:
-            lines.append(b"# line %d of E\n# expected: %s\n# got: %s\n" % (number, due, came))
-            lines += [b"# matched: %s: %s\n" % (name, RULES[NAMES.index(name)]) for name in matched]
-            lines += [] if matched else [b"# matched: no rule\n"]
-    names = [name for packet in packets for name in packet[3]]
-    return b"".join(lines) + unmatched(names)
+            lines.append(b"# line %d of E\n" % number + (b"# expected: %s\n" % due if due else b"") + b"# got: %s\n" % came)
+            lines += [b"# matched: %s: %s\n" % (name, RULES[NAMES.index(name)]) for name in matched] or [b"# matched: no rule\n"]
+    return b"".join(lines) + (unmatched([name for packet in packets for name in packet[3]]) if names_unmatched else b"")
 
 
 def packet_rows():
-    """Verdicts that are due, and those that aren't."""
+    """Verdicts that are due, and those that aren't; and names of files."""
     data = b"".join(b"%s -> %s\n" % packet[:2] for packet in PACKETS)
     yield Row("all packets", ["R", "E"], {"R": DUMP, "E": data}, of_packets(PACKETS), 1)
     right = [packet for packet in PACKETS if not packet[2]]
     data = b"".join(b"%s  ->\t%s \r\n" % packet[:2] for packet in right)
     yield Row("those that are as expected", ["R", "E"], {"R": DUMP, "E": data[:-2]}, of_packets(right), 0)
-    one = b"ok 1 - " + LOCAL + b" -> ACCEPT\n"
+    one, data = b"1..1\nok 1 - " + LOCAL + b" -> ACCEPT\n" + unmatched([b"INPUT 1"]), LOCAL + b" -> ACCEPT\n"
     yield Row("a name with `-` without `--`", ["a b", "-E"], {"a b": DUMP, "-E": b""}, b"", 2,
               USAGE + b"expect: error: the following arguments are required: EXPECTED\n")
-    yield Row("odd names", ["--", "a b", "-E"], {"a b": DUMP, "-E": b"\n # -> x\n\t\r\n" + LOCAL + b"   -> ACCEPT"},
-              b"1..1\n" + one + unmatched([b"INPUT 1"]), 0)
+    yield Row("odd names", ["--", "a b", "-E"], {"a b": DUMP, "-E": b"\n # -> x\n\t\r\n" + LOCAL + b"   -> ACCEPT"}, one, 0)
+    # `-` in place of a name.
+    yield Row("the ruleset from standard input", ["-", "E"], {"E": data}, one, 0, input=DUMP)
+    yield Row("the packets from standard input", ["R", "-"], {"R": DUMP}, one, 0, input=data)
+    yield bails_out("a line of standard input", ["R", "-"], {"R": DUMP}, 1, b"-:2: it is neither a packet line nor a comment", input=b"\niptables -F")
+    yield Row("both from standard input", ["-", "-"], {}, b"", 2, USAGE + b"expect: error: RULES and EXPECTED can't both be standard input\n", input=DUMP)
 
 
 def state_rows():
@@ -154,43 +143,39 @@ def state_rows():
               due + unmatched([b"INPUT 1", b"INPUT 4", b"b 1"]) + INVALID % (2, b"INPUT 2"), 0)
 
 
+def bails_out(about, words, files, status, *whys, **more):
+    """A run on files that can't be used: a message for each reason, and the first after `Bail out!`."""
+    return Row(about, words, files, b"Bail out!  " + whys[0] + b"\n", status, b"".join(b"expect: " + why + b"\n" for why in whys), **more)
+
+
 def unreadable_rows():
-    """Files that can't be used: a message for each line, and the first after `Bail out!`."""
+    good, both = {"R": DUMP, "E": LOCAL + b" -> ACCEPT\n"}, ["R", "E"]
     for table in (UNREADABLE, REFUSED):
         complaints = [b"E:%d: %s" % (number, why) for number, (_, why) in enumerate(table, 2)]
-        data = LOCAL + b" -> ACCEPT\n" + b"\n".join(line for line, _ in table)
-        yield Row("lines that can't be read", ["R", "E"], {"R": DUMP, "E": data}, b"Bail out!  " + complaints[0] + b"\n", 1,
-                  b"".join(b"expect: " + complaint + b"\n" for complaint in complaints))
-    good = {"R": DUMP, "E": LOCAL + b" -> ACCEPT\n"}
-    table = [
-        ("no packet", {"E": b"# nothing\n"}, 1, b"E: has no packet line"),
-        ("a refused rule", {"R": b"*filter\n\n-A INPUT -m limit\n-A x\nCOMMIT\n"}, 1, b"R doesn't load: line 3: P7 unknown match"),
-        ("no COMMIT", {"R": b"*filter\n-F\n"}, 1, b"R doesn't load: line 2: R4 end before COMMIT"),
-        ("an end word among the rules", {"R": b"END\n" + DUMP}, 1, b"R doesn't load: line 1: R1 line not allowed here"),
-        ("a line that is too long", {"R": b"*filter\n#" + b"x" * 10240 + b"\nCOMMIT\n"}, 1, b"R doesn't load: line 2: R6 line too long"),
-        ("an empty ruleset", {"R": b""}, 1, NO_FILTER),
-        ("carriage returns", {"R": DUMP.replace(b"\n", b"\r\n") + b"COMMIT\n"}, 1, NO_FILTER),
-        ("a section that is skipped", {"R": b"*nat\n" + DUMP}, 1, NO_FILTER),
-    ]
-    for about, files, status, why in table:
-        yield Row(about, ["R", "E"], {**good, **files}, b"Bail out!  " + why + b"\n", status, b"expect: " + why + b"\n")
-    why = b"cannot read nothing: No such file or directory"
-    yield Row("no ruleset", ["nothing", "E"], good, b"Bail out!  " + why + b"\n", 2, b"expect: " + why + b"\n")
-    yield Row("no packets", ["R", "nothing"], good, b"Bail out!  " + why + b"\n", 2, b"expect: " + why + b"\n")
-    why = b"cannot run /nothing: No such file or directory; IPTSIM has to name the program"
-    yield Row("no program", ["R", "E"], good, b"Bail out!  " + why + b"\n", 2, b"expect: " + why + b"\n", variables={"IPTSIM": "/nothing"})
-    why = b"the program ended before the end of its input"
-    yield Row("a program that ends at once", ["R", "E"], good, b"Bail out!  " + why + b"\n", 2, b"expect: " + why + b"\n",
-              variables={"IPTSIM": "/bin/false"})
-    yield Row("a full device", ["R", "E"], good, b"", 2, b"expect: output failed\n", stdout="/dev/full")
+        yield bails_out("lines that can't be read", both, {**good, "E": good["E"] + b"\n".join(line for line, _ in table)}, 1, *complaints)
+    yield bails_out("no packet", both, {**good, "E": b"# nothing\n"}, 1, b"E: has no packet line")
+    for about, rules, why in (
+            ("a refused rule", b"*filter\n\n-A INPUT -m limit\n-A x\nCOMMIT\n", b"R doesn't load: line 3: P7 unknown match"),
+            ("no COMMIT", b"*filter\n-F\n", b"R doesn't load: line 2: R4 end before COMMIT"),
+            ("an end word among the rules", b"END\n" + DUMP, b"R doesn't load: line 1: R1 line not allowed here"),
+            ("a line that is too long", b"*filter\n#" + b"x" * 10240 + b"\nCOMMIT\n", b"R doesn't load: line 2: R6 line too long"),
+            ("an empty ruleset", b"", NO_FILTER),
+            ("carriage returns", DUMP.replace(b"\n", b"\r\n") + b"COMMIT\n", NO_FILTER),
+            ("a section that is skipped", b"*nat\n" + DUMP, NO_FILTER)):
+        yield bails_out(about, both, {**good, "R": rules}, 1, why)
+    missing = b"cannot read nothing: No such file or directory"
+    yield bails_out("no ruleset", ["nothing", "E"], good, 2, missing)
+    yield bails_out("no packets", ["R", "nothing"], good, 2, missing)
+    yield bails_out("no program", both, good, 2, b"cannot run /nothing: No such file or directory; IPTSIM has to name the program",
+                    variables={"IPTSIM": "/nothing"})
+    yield bails_out("a program that ends at once", both, good, 2, b"the program ended before the end of its input", variables={"IPTSIM": "/bin/false"})
+    yield Row("a full device", both, good, b"", 2, b"expect: output failed\n", stdout="/dev/full")
+    yield Row("a report that can't be written", ["-q", "--junit", "nothing/x", *both], good, b"1..1\nok 1 - " + LOCAL + b" -> ACCEPT\n", 2,
+              b"expect: cannot write nothing/x: No such file or directory\n")
 
 
 def test_long_walk(command):
-    """More than 65,536 rules match: 1 rule of INPUT, 2 + 4 + .. + 32,768 of the chains, and 2 of INPUT."""
-    chains = [b":c%d -" % number for number in range(16)]
-    rules = [b"-A c%d -j c%d" % (number, number + 1) for number in range(15)] * 2
-    dump = b"\n".join([b"*filter", *chains, b"-A INPUT -j c0", b"-A INPUT", b"-A INPUT -j ACCEPT", *rules, b"COMMIT", b""])
-    ended = command("expect").run(["R", "E"], {"R": dump, "E": LOCAL + b" -> DROP\n"})
+    ended = command("expect").run(["R", "E"], {"R": LONG_WALK, "E": LOCAL + b" -> DROP\n"})
     due = b"1..1\nnot ok 1 - %s -> DROP\n# line 1 of E\n# expected: DROP\n# got: TOOLONG\n" % LOCAL
     due += b"# matched: more than 65536 rules, which are not listed\n"
     same((1, due, b""), (ended.returncode, ended.stdout[:len(due)], ended.stderr))
@@ -198,40 +183,20 @@ def test_long_walk(command):
 
 def shown_rows():
     """Packet lines of which nothing is due, and what --quiet leaves out."""
-    arrow = LOCAL.replace(b"=lo", b"=a->b")
-    lines = [LOCAL, b"\t" + PAST + b" \r", OTHER + b" -> DROP by policy", arrow]
-    due = b"1..4\nok 1 - " + LOCAL + SKIPPED + b"\n# line 1 of E\n# got: ACCEPT by INPUT 1\n# matched: INPUT 1: " + RULES[0] + b"\n"
-    due += b"ok 2 - " + PAST.replace(b"#", b"\\#") + SKIPPED + b"\n# line 2 of E\n# got: ACCEPT by policy\n# matched: no rule\n"
-    due += b"ok 3 - " + OTHER + b" -> DROP by policy\nok 4 - " + arrow + SKIPPED
-    due += b"\n# line 4 of E\n# got: DROP by policy\n# matched: INPUT 5: " + RULES[4] + b"\n"
-    files, note = {"R": DUMP, "E": b"\n".join(lines)}, INVALID % (4, b"INPUT 2")
-    yield Row("packets that are shown", ["R", "E"], files, due + unmatched([b"INPUT 1", b"INPUT 4", b"INPUT 5"]) + note, 0)
+    arrow, note = LOCAL.replace(b"=lo", b"=a->b"), INVALID % (4, b"INPUT 2")
+    first, *others = [(LOCAL, None, b"ACCEPT by INPUT 1", [b"INPUT 1"]), (PAST, None, b"ACCEPT by policy", []),
+                      (OTHER, b"DROP by policy", None, [b"INPUT 4"]), (arrow, None, b"DROP by policy", [b"INPUT 5"])]
+    files = {"R": DUMP, "E": b"\n".join([LOCAL, b"\t" + PAST + b" \r", OTHER + b" -> DROP by policy", arrow])}
+    yield Row("packets that are shown", ["R", "E"], files, of_packets([first, *others]) + note, 0)
     for word in ("-q", "--quiet"):
-        yield Row(word, ["R", word, "E"], files, due + note, 0)
-    wrong = {**files, "E": LOCAL + b"\n" + LOCAL + b" -> DROP\n"}
-    due = due[:due.index(b"ok 2")].replace(b"1..4", b"1..2") + b"not ok 2 - " + LOCAL + b" -> DROP\n# line 2 of E\n# expected: DROP\n"
-    yield Row("one that is shown, and one that is wrong", ["-q", "R", "E"], wrong,
-              due + b"# got: ACCEPT by INPUT 1\n# matched: INPUT 1: " + RULES[0] + b"\n", 1)
-
-
-def odd_chains():
-    """Chains whose names look like other words of a reply."""
+        yield Row(word, ["R", word, "E"], files, of_packets([first, *others], False) + note, 0)
+    wrong = of_packets([first, (LOCAL, b"DROP", *first[2:])], False)
+    yield Row("one that is shown, and one that is wrong", ["-q", "R", "E"], {**files, "E": LOCAL + b"\n" + LOCAL + b" -> DROP\n"}, wrong, 1)
+    # Chains whose names look like other words of a reply.
     dump = b"*filter\n:5 -\n:verdict -\n:line -\n-A INPUT -j 5\n-A 5 -j verdict\n-A verdict -j line\n-A line -j DROP\nCOMMIT\n"
     due = b"1..1\nok 1 - " + LOCAL + SKIPPED + b"\n# line 1 of E\n# got: DROP by line 1\n# matched: INPUT 1: -A INPUT -j 5\n"
     due += b"# matched: 5 1: -A 5 -j verdict\n# matched: verdict 1: -A verdict -j line\n# matched: line 1: -A line -j DROP\n"
     yield Row("odd names of chains", ["R", "E"], {"R": dump, "E": LOCAL}, due, 0)
-
-
-def standard_input_rows():
-    """`-` in place of a name."""
-    one = b"1..1\nok 1 - " + LOCAL + b" -> ACCEPT\n" + unmatched([b"INPUT 1"])
-    data = LOCAL + b" -> ACCEPT\n"
-    yield Row("the ruleset from standard input", ["-", "E"], {"E": data}, one, 0, input=DUMP)
-    yield Row("the packets from standard input", ["R", "-"], {"R": DUMP}, one, 0, input=data)
-    yield Row("a line of standard input", ["R", "-"], {"R": DUMP}, b"Bail out!  -:2: it is neither a packet line nor a comment\n", 1,
-              b"expect: -:2: it is neither a packet line nor a comment\n", input=b"\niptables -F")
-    yield Row("both from standard input", ["-", "-"], {}, b"", 2,
-              USAGE + b"expect: error: RULES and EXPECTED can't both be standard input\n", input=DUMP)
 
 
 def rule_object(name):
@@ -252,14 +217,13 @@ def packet_object(line, result, packet, walk, verdict, **more):
 def json_rows():
     """Documents, to the byte; and that they come with the same statuses."""
     lines = [LOCAL + b" -> ACCEPT by INPUT 1", LOGIN + b" -> REJECT tcp-reset by rule", b"# RETURNED", RETURNED + b" -> DROP", NAME]
+    first = {"name": "ACCEPT", "by": step_object(b"INPUT 1")}
     packets = [
-        packet_object(1, "passed", LOCAL, [b"INPUT 1"], {"name": "ACCEPT", "by": step_object(b"INPUT 1")},
-                      due={"name": "ACCEPT", "by": step_object(b"INPUT 1")}),
+        packet_object(1, "passed", LOCAL, [b"INPUT 1"], first, due=first),
         packet_object(2, "passed", LOGIN, [b"INPUT 3", b"a 1"], {"name": "REJECT", "type": "tcp-reset", "by": step_object(b"a 1")},
                       due={"name": "REJECT", "type": "tcp-reset", "by": "rule"}),
         packet_object(4, "passed", RETURNED, [b"INPUT 3", b"a 2", b"INPUT 5"], {"name": "DROP", "by": "policy"}, due={"name": "DROP"}),
-        packet_object(5, "shown", NAME, [b"INPUT 4", b"b 1"], {"name": "ACCEPT", "by": step_object(b"b 1")},
-                      invalid_at=step_object(b"INPUT 2")),
+        packet_object(5, "shown", NAME, [b"INPUT 4", b"b 1"], {"name": "ACCEPT", "by": step_object(b"b 1")}, invalid_at=step_object(b"INPUT 2")),
     ]
     matched = [b"INPUT 1", b"INPUT 3", b"INPUT 4", b"INPUT 5", b"a 1", b"a 2", b"b 1"]
     document = {"rules": "R", "expected": "E", "passed": True, "packets": packets,
@@ -268,23 +232,18 @@ def json_rows():
     yield Row("a document", ["--json", "R", "E"], files, written(document), 0)
     del document["unmatched"]
     yield Row("a document without the rules that no packet matched", ["--json", "--quiet", "R", "E"], files, written(document), 0)
-    failed = packet_object(1, "failed", LOCAL, [b"INPUT 1"], packets[0]["verdict"], due={"name": "DROP", "by": "policy"})
+    failed = packet_object(1, "failed", LOCAL, [b"INPUT 1"], first, due={"name": "DROP", "by": "policy"})
     yield Row("a document of a packet that is wrong", ["-q", "--json", "R", "E"], {**files, "E": LOCAL + b" -> DROP by policy"},
               written({"rules": "R", "expected": "E", "passed": False, "packets": [failed]}), 1)
-    wrong = [{"message": "E:1: it is neither a packet line nor a comment", "file": "E", "line": 1},
-             {"message": "E:2: a blank is missing after `->`", "file": "E", "line": 2}]
-    yield Row("a document of faults", ["--json", "R", "E"], {**files, "E": b"x\npacket ->x"}, written({"errors": wrong}), 1,
-              b"".join(b"expect: %s\n" % each["message"].encode() for each in wrong))
-    missing = "cannot read nothing: No such file or directory"
-    yield Row("a document of trouble", ["--json", "nothing", "E"], files, written({"errors": [{"message": missing}]}), 2,
-              b"expect: " + missing.encode() + b"\n")
-    loads_not = "R doesn't load: line 2: P7 unknown match"
-    yield Row("a document of a ruleset that doesn't load", ["--json", "R", "E"], {**files, "R": b"*filter\n-A INPUT -m x"},
-              written({"errors": [{"message": loads_not, "file": "R", "line": 2}]}), 1, b"expect: " + loads_not.encode() + b"\n")
-
-
-def written(document):
-    return json.dumps(document, indent=2).encode() + b"\n"
+    for about, rules, more, status, *errors in (
+            ("a document of faults", "R", {"E": b"x\npacket ->x"}, 1,
+             {"message": "E:1: it is neither a packet line nor a comment", "file": "E", "line": 1},
+             {"message": "E:2: a blank is missing after `->`", "file": "E", "line": 2}),
+            ("a document of trouble", "nothing", {}, 2, {"message": "cannot read nothing: No such file or directory"}),
+            ("a document of a ruleset that doesn't load", "R", {"R": b"*filter\n-A INPUT -m x"}, 1,
+             {"message": "R doesn't load: line 2: P7 unknown match", "file": "R", "line": 2})):
+        yield Row(about, ["--json", rules, "E"], {**files, **more}, written({"errors": errors}), status,
+                  b"".join(b"expect: %s\n" % error["message"].encode() for error in errors))
 
 
 JUNIT_DUMP = b"*filter\n-A INPUT -p tcp -m comment --comment \"<\xff\x01&\" -j DROP\n-A INPUT -p udp -j DROP\nCOMMIT\n"
@@ -335,17 +294,12 @@ def junit_rows():
 @each(junit_rows)
 def test_report(row, command, folder):
     """The report beside what is written without one."""
-    path = os.path.join(folder, "report.xml")
-    plain, ended = (command("expect").run([*more, *row.words], row.files) for more in ([], ["--junit", path]))
-    same((row.status, row.output, plain.stdout, plain.stderr), (ended.returncode, pathlib.Path(path).read_bytes(), ended.stdout, ended.stderr))
+    report = pathlib.Path(folder, "report.xml")
+    plain, ended = (command("expect").run([*more, *row.words], row.files) for more in ([], ["--junit", report]))
+    same((row.output, row.status, plain.stdout, plain.stderr), (report.read_bytes(), *outcome(ended)))
 
 
-def report_rows():
-    yield Row("a report that can't be written", ["-q", "--junit", "nothing/x", "R", "E"], {"R": DUMP, "E": LOCAL + b" -> ACCEPT"},
-              b"1..1\nok 1 - " + LOCAL + b" -> ACCEPT\n", 2, b"expect: cannot write nothing/x: No such file or directory\n")
-
-
-@each(packet_rows, state_rows, unreadable_rows, shown_rows, odd_chains, standard_input_rows, json_rows, report_rows)
+@each(packet_rows, state_rows, unreadable_rows, shown_rows, json_rows)
 def test_expect(row, command):
     command("expect").check(row)
 
@@ -356,13 +310,10 @@ OFFICE, WEB = (os.path.join(ROOT, "examples", name) for name in ("office.", "web
 @pytest.mark.parametrize("wrong", [9, None], ids=["office.rules", "office.rules, edited"])
 def test_example(wrong, command, iptsim):
     """The packets of the example, which are those of office.packets: all but the ninth get what is due, and after the edits all do."""
-    texts = {}
-    for name in ("packets", "edits"):
-        texts[name] = pathlib.Path(OFFICE + name).read_bytes()
-    edited = iptsim.said(["session", "--load", OFFICE + "rules"], texts["edits"] + b"iptables-save\n")
+    edited = iptsim.said(["session", "--load", OFFICE + "rules"], read(OFFICE + "edits") + b"iptables-save\n")
     ended = command("expect").run([OFFICE + "rules" if wrong else "R", OFFICE + "expected"], {"R": edited})
     came = [line.rsplit(b" -> ", 1)[0] for line in ended.stdout.splitlines() if not line.startswith(b"#")]
-    packets = [line.rstrip() for line in texts["packets"].splitlines() if line.startswith(b"packet")]
+    packets = [line.rstrip() for line in read(OFFICE + "packets").splitlines() if line.startswith(b"packet")]
     due = [b"%sok %d - %s" % (b"not " if number == wrong else b"", number, packet) for number, packet in enumerate(packets, 1)]
     same((1 if wrong else 0, b"\n".join([b"1..10", *due])), (ended.returncode, b"\n".join(came)))
 

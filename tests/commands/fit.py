@@ -1,22 +1,15 @@
 """bin/fit on rows of dumps: what it writes and its status, to the byte."""
 
 import os
+import pathlib
 import signal
 
 from tests.shared.row_files import rows_in
 from tests.shared.rows import UNREAD, Row, each, same
 
 # Names of services and protocols, and the words that have bin/fit look there.
-SERVICES = b"""# services
-ssh 22/tcp
-http 80/tcp www web # the web
-domain 53/tcp
-domain\t53/udp
-two 512/tcp
-two 513/udp
-named-association 5/sctp
-none 9/ddp
-"""
+SERVICES = (b"# services\nssh 22/tcp\nhttp 80/tcp www web # the web\ndomain 53/tcp\ndomain\t53/udp\ntwo 512/tcp\ntwo 513/udp\nnamed-association 5/sctp\n"
+            b"none 9/ddp\n")
 PROTOCOLS = b"ip 0 IP # all\nipencap 4 IP-ENCAP\nipv6 41\nipip 94\npim 103 other\nisis 124\nmobility-header 135\n"
 NAMES = ["--services", "S", "--protocols", "P"]
 
@@ -40,22 +33,29 @@ def head(assumed, dropped):
 FIRST = dump([]).count(b"\n")
 
 
-def files(data):
-    return {"d": data, "S": SERVICES, "P": PROTOCOLS}
+def note(at, text):
+    """What is said of the lines of a dump, by their places behind those that each has."""
+    return b"d:%d: %s\n" % (FIRST + at, text)
+
+
+def fault(at, text):
+    return b"fit: " + note(at, text)
+
+
+def on(dumped, words=()):
+    """The words and the files of a run on a dump, or on one with these lines."""
+    return [*words, "d"], {"d": dumped if isinstance(dumped, bytes) else dump(dumped), "S": SERVICES, "P": PROTOCOLS}
 
 
 def spelling_rows():
     """Lines that mean the same, and in another run lines that can't be made to fit, each beside all others."""
-    fitted = [row for row in SPELLINGS if row[1]]
-    said = [b"d:%d: %s\n" % (FIRST + at, note) for at, row in enumerate(fitted) for note in row[2]]
-    written = dump(line for row in fitted for line in row[1])
-    yield Row("spellings", [*NAMES, "d"], files(dump(line for (line,), *_ in fitted)), written, 0, b"".join(said))
-    left = [row for row in SPELLINGS if not row[1]]
-    said = [b"fit: d:%d: %s\n" % (FIRST + at, fault) for at, (*_, (fault,)) in enumerate(left)]
-    yield Row("lines that can't fit", [*NAMES, "d"], files(dump(line for (line,), *_ in left)), b"", 1, b"".join(said))
+    fitted, left = ([row for row in SPELLINGS if bool(row[1]) is fits] for fits in (True, False))
+    said = b"".join(note(at, text) for at, row in enumerate(fitted) for text in row[2])
+    yield Row("spellings", *on([line for (line,), *_ in fitted], NAMES), dump([line for row in fitted for line in row[1]]), 0, said)
+    said = b"".join(fault(at, text) for at, (*_, (text,)) in enumerate(left))
+    yield Row("lines that can't fit", *on([line for (line,), *_ in left], NAMES), b"", 1, said)
     # A line of several addresses before one that is refused: it has the number that it has in the file.
-    both = dump([b"-A INPUT -s 1.1.1.1,2.2.2.2", b"-A INPUT -s x"])
-    yield Row("a line after a list", ["d"], files(both), b"", 1, b"fit: d:%d: P3 bad value: x\n" % (FIRST + 1))
+    yield Row("a line after a list", *on([b"-A INPUT -s 1.1.1.1,2.2.2.2", b"-A INPUT -s x"]), b"", 1, fault(1, b"P3 bad value: x"))
 
 
 # Rules that decide nothing: what is written in their place, and what is said to be taken out.
@@ -67,182 +67,153 @@ DROPPED = (b"-j TCPMSS", b"-j MARK", b"-j NFLOG", b"-j CONNMARK", b"-j SET", b"-
            b"-m physdev", b"-m connbytes", b"-m addrtype", b"--ctproto", b"--tcp-option", b"-m ndpi", b"-m label", b"-m shape", b"-m nothing")
 # Rules that decide, and the name and text of what is to be assumed.
 LOUD = rows_in("commands/loud.rows", ">=!")
-ASKED = b"'%s=true' or '%s=false'"
+
+
+def asked(name, text):
+    return b"state --assume '%s=true' or '%s=false': %s" % (name, name, text)
 
 
 def quiet_rows():
     """What decides nothing goes, and what decides is asked for."""
-    chains = [b"-N further", b"-N leads", b":further -", b":leads -"]
-    lines = chains[2:] + [rule for (rule,), *_ in QUIET]
-    said = [b"d:%d: %s\n" % (FIRST + 2 + at, note) for at, (*_, notes, gone) in enumerate(QUIET) for note in [*notes, *(GONE + words for words in gone)]]
-    yield Row("rules that decide nothing", ["d"], files(dump(lines)), head([], DROPPED) + dump(chains[2:] + [written for _, (written,), *_ in QUIET]), 0,
-              b"".join(said))
-    lines = chains[2:] + [rule for (rule,), *_ in LOUD]
-    said = [b"fit: d:%d: state --assume %s: %s\n" % (FIRST + 2 + at, ASKED % (name, name), text) for at, (_, (name,), (text,)) in enumerate(LOUD)]
-    yield Row("rules that decide", ["d"], files(dump(lines)), b"", 2, b"".join(said))
+    chains = [b":further -", b":leads -"]
+    said = [note(2 + at, text) for at, (*_, notes, gone) in enumerate(QUIET) for text in [*notes, *(GONE + words for words in gone)]]
+    yield Row("rules that decide nothing", *on(chains + [rule for (rule,), *_ in QUIET]),
+              head([], DROPPED) + dump(chains + [written for _, (written,), *_ in QUIET]), 0, b"".join(said))
+    said = [fault(2 + at, asked(name, text)) for at, (_, (name,), (text,)) in enumerate(LOUD)]
+    yield Row("rules that decide", *on(chains + [rule for (rule,), *_ in LOUD]), b"", 2, b"".join(said))
     # Who sets what is asked; and one line for all that ask the same.
     marked = b" -m mark --mark 1 -j a"
     lines = [b"-A INPUT -j MARK --set-mark 1", b"-A INPUT" + marked, *DUE * 2, b"-A INPUT -p tcp" + marked, DUE[0]]
-    said = b"fit: d:%d: state --assume %s: -m mark --mark 1, which line %d sets by -j MARK, and at another line\n"
-    limit = b"fit: d:%d: state --assume 'limit=true' or 'limit=false': -m limit --limit 5/min --limit-burst 7, and at 2 more lines\n"
-    yield Row("marks", ["d"], files(dump(lines)), b"", 2, said % (FIRST + 1, ASKED % (b"mark", b"mark"), FIRST) + limit % (FIRST + 2))
+    said = fault(1, asked(b"mark", b"-m mark --mark 1, which line %d sets by -j MARK, and at another line" % FIRST))
+    yield Row("marks", *on(lines), b"", 2, said + fault(2, asked(b"limit", b"-m limit --limit 5/min --limit-burst 7, and at 2 more lines")))
     # A chain that is renamed, or that the file doesn't make, may decide.
-    limit = b"fit: d:%d: state --assume 'limit=true' or 'limit=false': -m limit\n"
-    renamed = [b"-E quiet other", b"-E verdict quiet", b"-A INPUT -m limit -j quiet"]
-    yield Row("a renamed chain", ["d"], files(dump(renamed)), b"", 2, limit % (FIRST + 2))
-    missing = b"fit: d:%d: T11 target chain missing: nowhere\n" % FIRST
-    yield Row("a missing chain", ["d"], files(dump([b"-A INPUT -m limit -j nowhere"])), b"", 1, missing + limit % FIRST)
+    renamed, limit = [b"-E quiet other", b"-E verdict quiet", b"-A INPUT -m limit -j quiet"], asked(b"limit", b"-m limit")
+    yield Row("a renamed chain", *on(renamed), b"", 2, fault(2, limit))
+    yield Row("a missing chain", *on([b"-A INPUT -m limit -j nowhere"]), b"", 1, fault(0, b"T11 target chain missing: nowhere") + fault(0, limit))
 
 
 # A rule, what is assumed, what is written in its place, and what is said; after these the assumptions that weren't needed.
 ASSUMED = rows_in("commands/assumed.rows", ">=<!?")
-UNUSABLE = [
-    ("limit", " is not MATCH=true, MATCH=false or TARGET=ACCEPT, with a target that bin/fit knows"),
-    ("limit=maybe", " is not MATCH=true, MATCH=false or TARGET=ACCEPT, with a target that bin/fit knows"),
-    ("=true", " is not MATCH=true, MATCH=false or TARGET=ACCEPT, with a target that bin/fit knows"),
-    ("limit \"x=true", " is not MATCH=true, MATCH=false or TARGET=ACCEPT, with a target that bin/fit knows"),
-    ("TARPIT=true", " is not MATCH=true, MATCH=false or TARGET=ACCEPT, with a target that bin/fit knows"),
-    ("state=true", ": state is known to the program"),
-    ("multiport --ports=false", ": multiport is known to the program"),
-    ("REJECT=DROP", ": REJECT is known to the program"),
-    ("MARK=DROP", ": MARK gives no verdict"),
-    ("TARPIT --reset=DROP", " is not MATCH=true, MATCH=false or TARGET=ACCEPT, with a target that bin/fit knows"),
-]
+# Assumptions that can't be used, by what is said of them.
+UNUSABLE = {
+    " is not MATCH=true, MATCH=false or TARGET=ACCEPT, with a target that bin/fit knows":
+        ("limit", "limit=maybe", "=true", "limit \"x=true", "TARPIT=true", "TARPIT --reset=DROP"),
+    ": state is known to the program": ("state=true",), ": multiport is known to the program": ("multiport --ports=false",),
+    ": REJECT is known to the program": ("REJECT=DROP",), ": MARK gives no verdict": ("MARK=DROP",),
+}
 
 
 def assumption_rows():
     """Assumptions that are stated: of all chains, true and false, inverted, finer ones, and those that can't be used."""
     for place, ((rule,), stated, written, said, unneeded) in enumerate(ASSUMED):
         chain = (b"INPUT", b"FORWARD", b"OUTPUT", b"verdict")[place % 4]
-        rule = rule.replace(b" -i lo", b" -f")
-        written = [b"-A %s %s" % (chain, each.replace(b" -i lo", b" -f")) for each in written]
+        rule, *written = (each.replace(b" -i lo", b" -f") for each in (rule, *written))
         words = [word for each in stated for word in ("--assume", each.decode())]
-        said = b"".join(b"d:%d: %s\n" % (FIRST, note) for note in said)
-        said += b"".join(b"fit: --assume '%s' wasn't needed\n" % each for each in unneeded)
-        data = dump([b"-A %s %s" % (chain, rule)])
+        said = [note(0, text) for text in said] + [b"fit: --assume '%s' wasn't needed\n" % each for each in unneeded]
         used = [each for each in stated if each not in unneeded]
-        first = head(used, [] if used else [b"-m limit"])
-        yield Row(f"{words} on {rule.decode()}", [*NAMES, *words, "d"], files(data), first + dump(written), 0, said)
-    missing = b"fit: d:%d: state --assume 'TARPIT=ACCEPT', 'TARPIT=DROP' or 'TARPIT=RETURN': -j TARPIT --reset\n" % FIRST
-    yield Row("a target without an assumption", ["d"], files(dump([b"-A INPUT -j TARPIT --reset"])), b"", 2, missing)
-    half = b"fit: d:%d: state --assume 'owner=true' or 'owner=false': -m owner --uid-owner 0\n" % FIRST
-    yield Row("half of them", ["--assume", "limit=true", "d"], files(dump([b"-A INPUT -m limit -m owner --uid-owner 0 -j a"])), b"", 2, half)
-    less = b"fit: d:%d: state --assume 'ndpi --genre Linux=true' or 'ndpi --genre Linux=false': -m ndpi --genre Linux\n" % FIRST
-    yield Row("some words of a match that isn't known", ["--assume", "ndpi=true", "d"], files(dump([b"-A INPUT -m ndpi --genre Linux -j a"])),
-              b"", 2, less)
-    for stated, why in UNUSABLE:
-        yield Row(stated, ["--assume", stated, "d"], files(dump([])), b"", 2, f"fit: --assume '{stated}'{why}\n".encode())
-    words = ["--assume", "limit --limit 5/min=true", "--assume", "limit --limit-burst 7=false", "d"]
-    yield Row("two on the same words", words, files(dump(DUE)), b"", 2,
+        fitted = head(used, [] if used else [b"-m limit"]) + dump([b"-A %s %s" % (chain, each) for each in written])
+        yield Row(f"{words} on {rule.decode()}", *on([b"-A %s %s" % (chain, rule)], [*NAMES, *words]), fitted, 0, b"".join(said))
+    missing = fault(0, b"state --assume 'TARPIT=ACCEPT', 'TARPIT=DROP' or 'TARPIT=RETURN': -j TARPIT --reset")
+    yield Row("a target without an assumption", *on([b"-A INPUT -j TARPIT --reset"]), b"", 2, missing)
+    half = fault(0, asked(b"owner", b"-m owner --uid-owner 0"))
+    yield Row("half of them", *on([b"-A INPUT -m limit -m owner --uid-owner 0 -j a"], ["--assume", "limit=true"]), b"", 2, half)
+    less = fault(0, asked(b"ndpi --genre Linux", b"-m ndpi --genre Linux"))
+    yield Row("some words of a match that isn't known", *on([b"-A INPUT -m ndpi --genre Linux -j a"], ["--assume", "ndpi=true"]), b"", 2, less)
+    for stated, why in ((stated, why) for why, table in UNUSABLE.items() for stated in table):
+        yield Row(stated, *on([], ["--assume", stated]), b"", 2, f"fit: --assume '{stated}'{why}\n".encode())
+    yield Row("two on the same words", *on(DUE, ["--assume", "limit --limit 5/min=true", "--assume", "limit --limit-burst 7=false"]), b"", 2,
               b"fit: --assume 'limit --limit 5/min=true' and 'limit --limit-burst 7=false' are on the same words\n")
 
 
 def test_rule_that_never_matches(command, iptsim):
     """No packet matches it, in any chain; and the other rules keep their numbers."""
-    lines = [b"-A %s -m limit -j DROP" % chain for chain in (b"INPUT", b"FORWARD", b"OUTPUT")]
-    lines += [b"-A %s -j ACCEPT" % chain for chain in (b"INPUT", b"FORWARD", b"OUTPUT")]
+    hooks = (b"INPUT", b"FORWARD", b"OUTPUT")
+    lines = [b"-A %s %s" % (hook, words) for words in (b"-m limit -j DROP", b"-j ACCEPT") for hook in hooks]
     fitted = command("fit").run(["--assume", "limit=false", "d"], {"d": dump(lines)}).stdout
-    packets = b"".join(b"packet %s src=%s dst=2.2.2.2 proto=47\n" % (hook, source) for hook in (b"INPUT", b"FORWARD", b"OUTPUT")
+    packets = b"".join(b"packet %s src=%s dst=2.2.2.2 proto=47\n" % (hook, source) for hook in hooks
                        for source in (b"0.0.0.0", b"10.0.0.1", b"255.255.255.255"))
     came = iptsim.said(["session"], b"iptables-restore <<END\n" + fitted + b"END\n" + packets)
-    same((b"".join(b"%s 2\nverdict ACCEPT by rule\n" % hook * 3 for hook in (b"INPUT", b"FORWARD", b"OUTPUT")),), (came,))
+    same((b"".join(b"%s 2\nverdict ACCEPT by rule\n" % hook * 3 for hook in hooks),), (came,))
+
+
+# A spelling that fits, what is written in its place, and what is said of it.
+TCP, SIX, SPELLED = [b"-A INPUT -p TCP"], [b"-A INPUT -p 6"], b"protocol: -p TCP -> -p 6"
 
 
 def deletion_rows():
     """A rule that is named by its words, where rules lose some."""
-    by_words = b"fit: d:%d: names a rule by its words, and other rules lost some: give its number instead\n"
-    quiet = b"-A INPUT -m limit --limit 5/min -j LOG"
-    yield Row("a rule deleted by words", ["d"], files(dump([quiet, b"-D INPUT -j LOG"])), b"", 1, by_words % (FIRST + 1))
-    yield Row("the first rule without words", ["d"], files(dump([b"-A INPUT", quiet, b"-D INPUT"])), b"", 1, by_words % (FIRST + 2))
-    checked = dump([b"-A INPUT -j ACCEPT", quiet, b"-C INPUT -j ACCEPT"])
-    yield Row("a rule checked by words", ["d"], files(checked), b"", 1, by_words % (FIRST + 2))
-    yield Row("a rule deleted that would lose words", ["d"], files(dump([b"-A INPUT -j LOG", b"-D INPUT -m limit -j LOG"])), b"", 1,
-              b"fit: d:%d: P7 unknown match: limit\n" % (FIRST + 1))
-    yield Row("a rule deleted by its number", ["d"], files(dump([quiet, b"-D INPUT 1"])),
-              head([], [b"-m limit"]) + dump([b"-A INPUT -j LOG", b"-D INPUT 1"]), 0,
-              b"d:%d: the rule gives no verdict, taken out: -m limit --limit 5/min\n" % FIRST)
-    spelled = dump([b"-A INPUT -p TCP", b"-D INPUT -p tcp"])
-    yield Row("a rule deleted, and none loses words", ["d"], files(spelled), spelled.replace(b"TCP", b"6"), 0,
-              b"d:%d: protocol: -p TCP -> -p 6\n" % FIRST)
+    by_words, quiet = b"names a rule by its words, and other rules lost some: give its number instead", b"-A INPUT -m limit --limit 5/min -j LOG"
+    yield Row("a rule deleted by words", *on([quiet, b"-D INPUT -j LOG"]), b"", 1, fault(1, by_words))
+    yield Row("the first rule without words", *on([b"-A INPUT", quiet, b"-D INPUT"]), b"", 1, fault(2, by_words))
+    yield Row("a rule checked by words", *on([b"-A INPUT -j ACCEPT", quiet, b"-C INPUT -j ACCEPT"]), b"", 1, fault(2, by_words))
+    yield Row("a rule deleted that would lose words", *on([b"-A INPUT -j LOG", b"-D INPUT -m limit -j LOG"]), b"", 1, fault(1, b"P7 unknown match: limit"))
+    yield Row("a rule deleted by its number", *on([quiet, b"-D INPUT 1"]), head([], [b"-m limit"]) + dump([b"-A INPUT -j LOG", b"-D INPUT 1"]), 0,
+              note(0, GONE + b"-m limit --limit 5/min"))
+    same_words = [b"-D INPUT -p tcp"]
+    yield Row("a rule deleted, and none loses words", *on(TCP + same_words), dump(SIX + same_words), 0, note(0, SPELLED))
 
 
 def file_rows():
     """Whole files: those that load, marks in them, and those that are no dump."""
     loads = dump([b"-A INPUT -p tcp  --dport 22 -j a"])
     for about, data in (("that loads", loads), ("without a newline", loads[:-1]), ("with a carriage return", b"# x\r\n" + loads)):
-        yield Row("a dump " + about, ["d"], files(data), data, 0)
-    yield Row("an assumption on a dump that loads", ["--assume", "limit=true", "d"], files(loads), loads, 0,
-              b"fit: --assume 'limit=true' wasn't needed\n")
+        yield Row("a dump " + about, *on(data), data, 0)
+    yield Row("an assumption on a dump that loads", *on(loads, ["--assume", "limit=true"]), loads, 0, b"fit: --assume 'limit=true' wasn't needed\n")
+    returning, gone = loads.replace(b"\n", b"\r\n"), b"carriage return at the end of this line, taken out"
     returns = b"d:1: carriage return at the end of this line, and of %d more, taken out\n" % (loads.count(b"\n") - 1)
-    mark = b"d:1: byte order mark, taken out\n"
-    yield Row("carriage returns", ["d"], files(loads.replace(b"\n", b"\r\n")), loads, 0, returns)
-    yield Row("one carriage return", ["d"], files(loads[:-1].replace(b"-j a\n", b"-j a\r\n")), loads, 0,
-              b"d:%d: carriage return at the end of this line, taken out\nd:%d: newline at the end, added\n" % (FIRST, FIRST + 1))
-    marked = b"\xef\xbb\xbf" + loads.replace(b"\n", b"\r\n")
-    yield Row("a byte order mark and carriage returns", ["d"], files(marked), loads, 0, mark + returns)
+    yield Row("carriage returns", *on(returning), loads, 0, returns)
+    yield Row("one carriage return", *on(loads[:-1].replace(b"-j a\n", b"-j a\r\n")), loads, 0, note(0, gone) + note(1, b"newline at the end, added"))
+    yield Row("a byte order mark and carriage returns", *on(b"\xef\xbb\xbf" + returning), loads, 0, b"d:1: byte order mark, taken out\n" + returns)
     rule = b"-A INPUT -p tcp -m comment --comment \"a\rb\" --dport "
-    yield Row("carriage returns and a name", [*NAMES, "d"], files(dump([rule + b"ssh\r"])), dump([rule + b"22"]), 0,
-              b"d:%d: carriage return at the end of this line, taken out\n" % FIRST +
-              b"d:%d: port: --dport ssh -> --dport 22\n" % FIRST)
+    yield Row("carriage returns and a name", *on([rule + b"ssh\r"], NAMES), dump([rule + b"22"]), 0, note(0, gone) + note(0, b"port: --dport ssh -> --dport 22"))
     nat = b"*nat\n-A PREROUTING -p tcp --dport http -m limit -j DNAT\nCOMMIT\n"
-    yield Row("other tables", [*NAMES, "d"], files(nat + dump([b"-A INPUT -p TCP"]) + nat), nat + dump([b"-A INPUT -p 6"]) + nat, 0,
-              b"d:%d: protocol: -p TCP -> -p 6\n" % (FIRST + 3))
-    yield Row("two sections", ["d"], files(dump([b"-A INPUT -p TCP"]) * 2), dump([b"-A INPUT -p 6"]) * 2, 0,
-              b"d:%d: protocol: -p TCP -> -p 6\nd:%d: protocol: -p TCP -> -p 6\n" % (FIRST, 2 * FIRST + 1))
-    empty = b"fit: d: is empty: make a dump with iptables-save.\n"
-    yield Row("an empty file", ["d"], files(b""), b"", 1, empty)
-    yield Row("no section", ["d"], files(nat), b"", 1, b"fit: d: has no section *filter: make a dump with iptables-save.\n")
-    yield Row("a misspelt section", ["d"], files(b"*fliter\n-A INPUT -p TCP\nCOMMIT\n"), b"", 1,
+    yield Row("other tables", *on(nat + dump(TCP) + nat, NAMES), nat + dump(SIX) + nat, 0, note(3, SPELLED))
+    yield Row("two sections", *on(dump(TCP) * 2), dump(SIX) * 2, 0, note(0, SPELLED) + note(FIRST + 1, SPELLED))
+    yield Row("an empty file", *on(b""), b"", 1, b"fit: d: is empty: make a dump with iptables-save.\n")
+    yield Row("no section", *on(nat), b"", 1, b"fit: d: has no section *filter: make a dump with iptables-save.\n")
+    yield Row("a misspelt section", *on(b"*fliter\n-A INPUT -p TCP\nCOMMIT\n"), b"", 1,
               b"fit: d:1: *fliter is no table of iptables, so its section is skipped: did you mean *filter?\nfit: d:2: P3 bad value: TCP\n")
-    yield Row("no COMMIT", ["d"], files(b"*filter\n-A INPUT -p TCP\n"), b"", 1, b"fit: d:2: R4 end before COMMIT: *filter\n")
-    yield Row("control characters", ["d"], files(dump([b"-A INPUT -s x\x1b,\x00\xc3\xa4"])), b"", 1,
-              b"fit: d:%d: P3 bad value: x\\x1b,\\x00\xc3\xa4\n" % FIRST)
+    yield Row("no COMMIT", *on(b"*filter\n-A INPUT -p TCP\n"), b"", 1, b"fit: d:2: R4 end before COMMIT: *filter\n")
+    yield Row("control characters", *on([b"-A INPUT -s x\x1b,\x00\xc3\xa4"]), b"", 1, fault(0, b"P3 bad value: x\\x1b,\\x00\xc3\xa4"))
 
 
 def everyday_rows():
     """Standard input, rules for IPv6 alone, and a reader that has gone."""
-    quiet = dump([b"-A INPUT -m limit -j LOG"])
     yield Row("standard input", ["-"], {}, head([], [b"-m limit"]) + dump([b"-A INPUT -j LOG"]), 0,
-              b"-:%d: the rule gives no verdict, taken out: -m limit\n" % FIRST, input=quiet)
+              b"-:%d: the rule gives no verdict, taken out: -m limit\n" % FIRST, input=dump([b"-A INPUT -m limit -j LOG"]))
     lines = [b"-A INPUT -6 -j DROP", b"-A INPUT -p TCP --ipv6", b"-A INPUT -m comment --comment -6", b"-A INPUT -j DROP"]
-    out = b"d:%d: a rule for IPv6 only, taken out: "
-    yield Row("rules for IPv6 alone", ["d"], files(dump(lines)), dump(lines[2:]), 0,
-              out % FIRST + lines[0] + b"\n" + out % (FIRST + 1) + lines[1] + b"\n")
-    yield Row("a long list of what is assumed", ["--assume", "string --string " + "x" * 1000 + "=true", "d"],
-              files(dump([b"-A INPUT -m string --string " + b"x" * 1000 + b" -j a"])),
+    said = b"".join(note(at, b"a rule for IPv6 only, taken out: " + line) for at, line in enumerate(lines[:2]))
+    yield Row("rules for IPv6 alone", *on(lines), dump(lines[2:]), 0, said)
+    long = b"string --string " + b"x" * 1000
+    yield Row("a long list of what is assumed", *on([b"-A INPUT -m " + long + b" -j a"], ["--assume", long.decode() + "=true"]),
               b"# iptsim-fit: for trials; assumed string --string " + b"x" * 950 + b" ..\n" + dump([b"-A INPUT -j a"]), 0,
-              b"d:%d: assumed string --string %s=true, taken out: -m string --string %s\n" % (FIRST, b"x" * 1000, b"x" * 1000))
-    yield Row("a closed pipe", ["d"], files(dump([b"-A INPUT -j a"])), b"", -signal.SIGPIPE, stdout=UNREAD)
+              note(0, b"assumed " + long + b"=true, taken out: -m " + long))
+    yield Row("a closed pipe", *on([b"-A INPUT -j a"]), b"", -signal.SIGPIPE, stdout=UNREAD)
 
 
 def word_rows():
     """Words of the line, names of files, and what can't be read."""
-    good = files(dump([b"-A INPUT -p TCP"]))
+    (_, good), missing = on(TCP), b"fit: cannot read nothing: No such file or directory\n"
     usage = b"usage: fit [-h] [--assume WORDS=VALUE].. [--noflush] [--services FILE] [--protocols FILE] FILE..\nfit: error: "
     yield Row("no words", [], {}, b"", 2, usage + b"the following arguments are required: FILE\n")
-    yield Row("a missing file", ["nothing"], good, b"", 2, b"fit: cannot read nothing: No such file or directory\n")
-    for option in ("--services", "--protocols"):
-        yield Row("a missing list", [option, "nothing", "d"], good, b"", 2, b"fit: cannot read nothing: No such file or directory\n")
-    yield Row("an odd name", ["--", b"-\xff"], {b"-\xff".decode(errors="surrogateescape"): good["d"]}, dump([b"-A INPUT -p 6"]), 0,
-              b"-\xff:%d: protocol: -p TCP -> -p 6\n" % FIRST)
-    yield Row("a full device", ["d"], files(dump([])), b"", 2, b"fit: output failed\n", stdout="/dev/full")
-    why = b"fit: cannot run /nothing: No such file or directory; IPTSIM has to name the program\n"
-    yield Row("no program", ["d"], good, b"", 2, why, variables={"IPTSIM": "/nothing"})
-    for kind, option in (("port", b"--dport"), ("protocol", b"-p")):
+    for about, words in (("a missing file", ["nothing"]), ("a missing list", ["--services", "nothing", "d"]), ("a missing list", ["--protocols", "nothing", "d"])):
+        yield Row(about, words, good, b"", 2, missing)
+    yield Row("an odd name", ["--", b"-\xff"], {os.fsdecode(b"-\xff"): good["d"]}, dump(SIX), 0, b"-\xff:%d: %s\n" % (FIRST, SPELLED))
+    yield Row("a full device", *on([]), b"", 2, b"fit: output failed\n", stdout="/dev/full")
+    yield Row("no program", *on(TCP), b"", 2, b"fit: cannot run /nothing: No such file or directory; IPTSIM has to name the program\n",
+              variables={"IPTSIM": "/nothing"})
+    for kind, option, rule in ((b"port", b"--dport", b"-A INPUT -p tcp --dport "), (b"protocol", b"-p", b"-A INPUT -p ")):
         for name, number in usual_entry(kind):
-            rule = b"-A INPUT -p tcp --dport " if kind == "port" else b"-A INPUT -p "
-            yield Row(f"the machine's own {kind}s", ["d"], files(dump([rule + name])), dump([rule + number]), 0,
-                      b"d:%d: %s: %s %s -> %s %s\n" % (FIRST, kind.encode(), option, name, option, number))
+            yield Row(f"the machine's own {kind.decode()}s", *on([rule + name]), dump([rule + number]), 0,
+                      note(0, b"%s: %s %s -> %s %s" % (kind, option, name, option, number)))
 
 
 def usual_entry(kind):
     """A name of the machine's own list with its number, which the program doesn't know, in a list; an empty one where there is none."""
-    path = "/etc/services" if kind == "port" else "/etc/protocols"
-    if not os.path.exists(path):
-        return []
-    with open(path, "rb") as file:
-        entries = [line.split()[:2] for line in file if line[:1].isalpha() and len(line.split()) > 1]
-    if kind == "port":
+    path = pathlib.Path("/etc/services" if kind == b"port" else "/etc/protocols")
+    lines = path.read_bytes().splitlines() if path.exists() else []
+    entries = [line.split()[:2] for line in lines if line[:1].isalpha() and len(line.split()) > 1]
+    if kind == b"port":
         return [(name, port.split(b"/")[0]) for name, port in entries if port.endswith(b"/tcp")][:1]
     return [(name, number) for name, number in entries if name in (b"pim", b"ipip", b"egp", b"ipencap")][:1]
 

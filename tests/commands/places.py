@@ -11,13 +11,13 @@ import sys
 import pytest
 
 from tests import ROOT
+from tests.shared import read
 from tests.shared.installed import install
-from tests.shared.rows import same, script
+from tests.shared.rows import outcome, same
 
 SLOW = (b"%s: bin/quick runs iptsim without a proof, and slowly: 8,192 rules take iptsim 22 to 110 s, and 0.15 s if it is proved.\n"
         b"%s: install a release, or run bin/iptsim once, which proves and builds the program in about an hour.\n")
 AUDIT = "from commands import places; print(*places.program_call('iptaudit'))"
-REFUSED = b"*filter\n-A INPUT -m limit -j DROP\nCOMMIT\n"
 LIMIT = (b"d:2: P7 unknown match: limit\nd: limit: a stateful match: its result depends on earlier packets."
          b" iptaudit reads the dump as it is; %s writes a copy for trials in which it always matches, or never does, as you state.\n")
 BUILT = 1_000_000_000
@@ -28,26 +28,25 @@ class Trial:
 
     def __init__(self, program, folder):
         self.program, self.folder, self.notes = program, folder, os.path.join(folder, "notes")
-        self.put("d", REFUSED)
+        self.put("d", b"*filter\n-A INPUT -m limit -j DROP\nCOMMIT\n")
 
     def path(self, name):
         return os.path.join(self.folder, name)
 
-    def put(self, name, data=b"", when=BUILT):
+    def put(self, name, data=b""):
         os.makedirs(os.path.dirname(self.path(name)), exist_ok=True)
         pathlib.Path(self.path(name)).write_bytes(data)
-        os.utime(self.path(name), (when, when))
+        self.newer(name, 0)
 
     def newer(self, name, seconds=9):
-        """Has a file be newer than the program."""
+        """Has a file be so many seconds newer than the program."""
         os.utime(self.path(name), (BUILT + seconds, BUILT + seconds))
 
     def stand_in(self, name, shift=False):
         """A program that notes its name and runs the real one; that of bin/quick without its first word."""
         first = '[ "$1" = iptsim ] && shift\n' if shift else ""
-        self.put(name)
-        script(self.path(name), f"#!/bin/sh\necho '{name}' >>'{self.notes}'\n{first}exec '{self.program}' \"$@\"\n")
-        os.utime(self.path(name), (BUILT, BUILT))
+        self.put(name, f"#!/bin/sh\necho '{name}' >>'{self.notes}'\n{first}exec '{self.program}' \"$@\"\n".encode())
+        os.chmod(self.path(name), 0o755)
 
     def run(self, call, asked, status, output, messages=b"", **variables):
         """A call of a script in the folder, what is due of it, and which program it has to ask."""
@@ -55,7 +54,7 @@ class Trial:
         self.put("notes")
         ended = subprocess.run(call, cwd=self.folder, env={**environment, **variables}, stdin=subprocess.DEVNULL, capture_output=True, check=False)
         names = sorted(set(pathlib.Path(self.notes).read_text(encoding="utf-8").split()))
-        same((status, output, messages, asked), (ended.returncode, ended.stdout, ended.stderr, names))
+        same((status, output, messages, asked), (*outcome(ended), names))
 
 
 @pytest.fixture
@@ -64,7 +63,7 @@ def checkout(iptsim, folder):
     trial = Trial(iptsim.path, folder)
     for name in ("bin", "commands"):
         shutil.copytree(os.path.join(ROOT, name), trial.path(name), ignore=shutil.ignore_patterns("quick", "iptsim", "__pycache__"))
-    trial.put("crates.txt", pathlib.Path(os.path.join(ROOT, "crates.txt")).read_bytes())
+    trial.put("crates.txt", read("crates.txt"))
     for crate in ("iptsim", "fields", "table", "bench"):
         for part in ("src", "specs", "proofs", "must-fail"):
             trial.put(f"crates/{crate}/{part}/inner/file")
@@ -124,7 +123,6 @@ def test_iptaudit(checkout):
 @pytest.fixture
 def installation(iptsim, folder):
     trial = Trial(iptsim.path, folder)
-    os.mkdir(trial.path("to"))
     install(trial.path("to"), "check", "fit")
     trial.stand_in("to/bin/iptsim")
     os.symlink("to/bin/iptsim-check", trial.path("linked"))

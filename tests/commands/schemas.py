@@ -12,19 +12,14 @@ import pytest
 
 from tests import ROOT
 from tests.programs.audited.documents import schema_rows
+from tests.shared import read
+from tests.shared.rows import section
 
 jsonschema = pytest.importorskip("jsonschema")
-SCHEMAS = os.path.join(ROOT, "docs", "schemas")
-DUMP = b"""*filter
-:INPUT DROP [0:0]
-:a -
--A INPUT -i lo -j ACCEPT
--A INPUT -m conntrack --ctstate ESTABLISHED -j ACCEPT
--A INPUT -p tcp -m comment --comment "\xff\xc3\xa4\x01" -j a
--A INPUT -p udp -m multiport --ports 53,123 -j DROP
--A a -p tcp -m tcp --dport 22 -j REJECT --reject-with tcp-reset
-COMMIT
-"""
+DUMP = section(
+    b":INPUT DROP [0:0]", b":a -", b"-A INPUT -i lo -j ACCEPT", b"-A INPUT -m conntrack --ctstate ESTABLISHED -j ACCEPT",
+    b"-A INPUT -p tcp -m comment --comment \"\xff\xc3\xa4\x01\" -j a", b"-A INPUT -p udp -m multiport --ports 53,123 -j DROP",
+    b"-A a -p tcp -m tcp --dport 22 -j REJECT --reject-with tcp-reset")
 LOCAL = b"packet INPUT src=1.1.1.1 dst=2.2.2.2 proto=47 in=lo"
 LOGIN = b"packet INPUT src=1.1.1.1 dst=2.2.2.2 proto=tcp sport=1 dport=22 ct=NEW"
 NAME = b"packet INPUT src=1.1.1.1 dst=2.2.2.2 proto=udp sport=1 dport=54"
@@ -67,7 +62,6 @@ ROWS = {
 
 
 def keys(schema):
-    """The keys that a schema names."""
     if isinstance(schema, list):
         return set().union(*map(keys, schema))
     if not isinstance(schema, dict):
@@ -99,49 +93,42 @@ def damaged(document):
         yield path, changed(document, path, lambda value: {**value, "a key more": None} if isinstance(value, dict) else [None])
 
 
-def document_of(output):
-    """The document that was written; None where it is none."""
-    try:
-        return json.loads(output)
-    except ValueError:
-        return None
-
-
 @functools.lru_cache(maxsize=None)
 def schema_of(name):
-    with open(os.path.join(SCHEMAS, name + ".json"), encoding="utf-8") as file:
-        schema = json.load(file)
+    schema = json.loads(read("docs/schemas", name + ".json"))
     jsonschema.Draft202012Validator.check_schema(schema)
     return schema
 
 
-def run(name, row, command, request):
-    """Runs a row."""
-    words, files, given, _ = row
-    asked = request.getfixturevalue("iptaudit") if name == "iptaudit" else command(name)
-    return asked.run(words, files, given)
+@pytest.fixture
+def run(command, request):
+    """Runs a row: its document, and its status."""
+    def of(name, row):
+        words, files, given, _ = row
+        asked = request.getfixturevalue("iptaudit") if name == "iptaudit" else command(name)
+        ended = asked.run(words, files, given)
+        return json.loads(ended.stdout), ended.returncode
+    return of
 
 
 FLAT = [(name, row) for name, rows in ROWS.items() for row in rows]
 
 
 @pytest.mark.parametrize("name, row", FLAT, ids=[f"{name} {' '.join(map(str, row[0]))}" for name, row in FLAT])
-def test_document(name, row, command, request):
-    ended, validator = run(name, row, command, request), jsonschema.Draft202012Validator(schema_of(name))
-    document = document_of(ended.stdout)
+def test_document(name, row, run):
+    (document, status), validator = run(name, row), jsonschema.Draft202012Validator(schema_of(name))
     faults = [f"{error.json_path}: {error.message}" for error in validator.iter_errors(document)]
     faults += [f"accepted with a fault at {path}" for path, wrong in damaged(document) if validator.is_valid(wrong)]
-    assert (faults, ended.returncode) == ([], row[3])
+    assert (faults, status) == ([], row[3])
 
 
 @pytest.mark.parametrize("name", ROWS)
-def test_keys(name, command, request):
+def test_keys(name, run):
     """Each key that a schema names is one of some document."""
-    documents = [document_of(run(name, row, command, request).stdout) for row in ROWS[name]]
-    written = {key for document in documents for path in places(document) for key in path if isinstance(key, str)}
+    written = {key for row in ROWS[name] for path in places(run(name, row)[0]) for key in path if isinstance(key, str)}
     assert sorted(keys(schema_of(name)) - written) == []
 
 
 def test_schemas():
     """Each schema has rows of documents."""
-    assert sorted(os.listdir(SCHEMAS)) == sorted(name + ".json" for name in ROWS)
+    assert sorted(os.listdir(os.path.join(ROOT, "docs", "schemas"))) == sorted(name + ".json" for name in ROWS)

@@ -2,55 +2,19 @@
 another beside what it lists of the one dump that comes of them.
 """
 
-from tests.shared.rows import Row, each, same
+from tests.shared.rows import Row, each, same, section
 
 NAMES = ["--services", "S"]
 SERVICES = b"ssh 22/tcp\n"
 FIRST_LINE = b"# iptsim-fit: for trials; taken out -m limit\n"
-BEFORE = b"""*filter
-:INPUT DROP [1:60]
-:before - [0:0]
-:user - [0:0]
--A INPUT -j before
--A before -i lo -j ACCEPT
--A before -j user
--A user -j RETURN
-COMMIT
-"""
-USER = b"""# The user's rules
-*filter
-:user - [0:0]
--A user -p tcp --dport ssh -j ACCEPT
-COMMIT
-"""
-AFTER = b"""*nat
-:PREROUTING ACCEPT [0:0]
-COMMIT
-*filter
-:INPUT - [0:0]
-:OUTPUT DROP [5:300]
-:after -
--A INPUT -j after
-# Logged
--A after -m limit -j LOG
--A after -j DROP
-COMMIT
-"""
+BEFORE = section(b":INPUT DROP [1:60]", b":before - [0:0]", b":user - [0:0]", b"-A INPUT -j before", b"-A before -i lo -j ACCEPT", b"-A before -j user",
+                 b"-A user -j RETURN")
+USER = b"# The user's rules\n" + section(b":user - [0:0]", b"-A user -p tcp --dport ssh -j ACCEPT")
+NAT = b"*nat\n:PREROUTING ACCEPT [0:0]\nCOMMIT\n"
+AFTER = NAT + section(b":INPUT - [0:0]", b":OUTPUT DROP [5:300]", b":after -", b"-A INPUT -j after", b"# Logged", b"-A after -m limit -j LOG", b"-A after -j DROP")
 # The three in turn, each added to those before it.
-TOGETHER = BEFORE[:-7] + b"""-F user
--A user -p tcp --dport 22 -j ACCEPT
--P OUTPUT DROP
-:after -
--A INPUT -j after
-# Logged
--A after -j LOG
--A after -j DROP
-COMMIT
-# The user's rules
-*nat
-:PREROUTING ACCEPT [0:0]
-COMMIT
-"""
+TOGETHER = (BEFORE[:-7] + b"-F user\n-A user -p tcp --dport 22 -j ACCEPT\n-P OUTPUT DROP\n:after -\n-A INPUT -j after\n# Logged\n-A after -j LOG\n"
+            b"-A after -j DROP\nCOMMIT\n# The user's rules\n" + NAT)
 JOINED = b"chain line of a further section: "
 # Sections of which later ones speak of chains that earlier ones made, deleted or renamed.
 CHAINS = (b"*filter\n:a -\n:b -\n:f -\n-N c\n-X f\n-N f\n-A f -j DROP\n-A a -j DROP\n-A b -j DROP\n-A c -j DROP\nCOMMIT\n",
