@@ -10,7 +10,7 @@ import re
 
 import pytest
 
-from tests.shared.differences import COLUMNS, Malformed, is_command, read, rows_of, session_line
+from tests.shared.differences import COLUMNS, FAULT, Malformed, is_command, read, rows_of, session_line
 
 EMPTY_LISTING = "*filter\n:INPUT ACCEPT [0:0]\n:FORWARD ACCEPT [0:0]\n:OUTPUT ACCEPT [0:0]\nCOMMIT\n"
 TOLD = re.compile(r"line ([0-9]+): ([A-Z][0-9]+) .*")
@@ -31,29 +31,24 @@ def listed(entry):
     return entry if entry.startswith((":", "-A ")) else "-A INPUT " + entry
 
 
-def beyond_empty(lines):
-    """The lines of the last listing that an empty table's doesn't have."""
-    if "*filter" in lines:
-        lines = lines[len(lines) - 1 - lines[::-1].index("*filter"):]
-    return [line for line in lines if line not in EMPTY_LISTING.split("\n")]
-
-
 def answer_of(status, written, first):
-    """The answer as text: a fault and its line, counted from the first that is given, or what a listing or reply has."""
+    """The answer as text: a fault and its line, counted from the first that is given, or what the last listing has that an empty table's doesn't, or
+    a reply."""
     faults = [TOLD.fullmatch(line) for line in written]
     if any(faults):
         told = ["%s at line %d" % (fault[2], int(fault[1]) - first) for fault in faults if fault]
         return told if status else ["status 0 with a fault"]
-    return beyond_empty(written) if status == 0 else ["status %d without a fault" % status]
+    if status:
+        return ["status %d without a fault" % status]
+    begin = len(written) - 1 - written[::-1].index("*filter") if "*filter" in written else 0
+    return [line for line in written[begin:] if line not in EMPTY_LISTING.split("\n")]
 
 
 def answer_to_session(program, entries):
     lines = [session_line(entry) for entry in entries]
-    if lines[-1].startswith("packet"):
-        status, written = run(program, ["session"], lines)
-        return answer_of(status, written, 0)[-1:]
-    status, written = run(program, ["session"], lines + ["iptables-save"])
-    return answer_of(status, written, 0)
+    is_packet = lines[-1].startswith("packet")
+    told = answer_of(*run(program, ["session"], lines if is_packet else [*lines, "iptables-save"]), 0)
+    return told[-1:] if is_packet else told
 
 
 def answer_to_file(program, entries, newline):
@@ -61,20 +56,12 @@ def answer_to_file(program, entries, newline):
     lines = [entry for entry in entries if entry not in OPTIONS]
     has_section = any(re.match(r'[ "]*\*', line) for line in lines)
     wrapped = lines if has_section else ["*filter"] + lines + ["COMMIT"]
-    status, written = run(program, words, wrapped, "\n" if newline else "")
-    return answer_of(status, written, 0 if has_section else 1)
-
-
-def answer(program, row):
-    if row.form == "file":
-        return answer_to_file(program, row.entries("given"), "without a newline" not in row.given)
-    return answer_to_session(program, row.entries("given"))
+    return answer_of(*run(program, words, wrapped, "\n" if newline else ""), 0 if has_section else 1)
 
 
 def wanted(row):
-    """The answer that the file has for a row."""
     entries, given = row.entries("iptsim"), row.entries("given")
-    if row.is_fault():
+    if any(map(FAULT.fullmatch, entries)):
         lines = [entry for entry in given if entry not in OPTIONS]
         named = re.search(r" at line ([0-9]+)", row.iptsim)
         return ["%s at line %d" % (entries[0], int(named[1]) if named else len(lines))]
@@ -89,10 +76,8 @@ def trouble_of_instead(program, row):
     got = answer_to_session(program, before + instead)
     if any(re.match(r"[A-Z][0-9]+ at line|status", line) for line in got):
         return "what stands for it is answered by %s" % shown(got)
-    if not before and not any(is_command(entry) and not entry.startswith("-A ") for entry in instead):
-        if got != [listed(entry) for entry in instead]:
-            return "what stands for it is listed as %s" % shown(got)
-    return None
+    are_rules = not before and not any(is_command(entry) and not entry.startswith("-A ") for entry in instead)
+    return "what stands for it is listed as %s" % shown(got) if are_rules and got != [listed(entry) for entry in instead] else None
 
 
 def shown(lines):
@@ -101,11 +86,11 @@ def shown(lines):
 
 
 def troubles_of(program, row):
-    """What isn't as the file says."""
-    got, due, given = answer(program, row), wanted(row), shown(row.entries("given"))
-    troubles = [] if got == due else ["%s is answered by %s, and not by %s" % (given, shown(got), shown(due))]
+    given, due = row.entries("given"), wanted(row)
+    got = answer_to_file(program, given, "without a newline" not in row.given) if row.form == "file" else answer_to_session(program, given)
+    troubles = [] if got == due else ["%s is answered by %s, and not by %s" % (shown(given), shown(got), shown(due))]
     trouble = trouble_of_instead(program, row) if row.entries("instead") else None
-    return troubles + ([given + ": " + trouble] if trouble else [])
+    return troubles + ([shown(given) + ": " + trouble] if trouble else [])
 
 
 ROWS = rows_of(read())

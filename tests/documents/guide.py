@@ -12,6 +12,7 @@ import shutil
 import pytest
 
 from tests import ROOT
+from tests.shared import read
 from tests.shared.followed import follow
 
 DOCUMENTS = ("README.md", "docs/GUIDE.md")
@@ -19,8 +20,7 @@ COMMAND = re.compile(r"(?m)^    \$ (.*)\n((?:(?!    \$ |#).*\n)*)")
 
 
 def text_of(document):
-    with open(os.path.join(ROOT, document), encoding="utf-8") as file:
-        return file.read()
+    return read(document).decode()
 
 
 def commands_of(text):

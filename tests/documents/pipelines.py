@@ -3,7 +3,6 @@ tests of the sample.
 """
 
 import os
-import pathlib
 import re
 import shutil
 import subprocess
@@ -11,6 +10,7 @@ import subprocess
 import pytest
 
 from tests import ROOT
+from tests.shared import read
 from tests.shared.installed import linked
 
 EXAMPLES = os.path.join(ROOT, "examples")
@@ -20,7 +20,7 @@ COMMAND = re.compile(r"(?m)^ *(?:run:|-) ((?:iptsim-\w+|iptaudit) .*)$")
 
 @pytest.mark.parametrize("name", ["github.yml", "gitlab.yml"])
 def test_pipeline(name, folder, iptsim, iptaudit):
-    commands = COMMAND.findall(pathlib.Path(os.path.join(EXAMPLES, name)).read_text(encoding="utf-8"))
+    commands = COMMAND.findall(read("examples", name).decode())
     assert [line.split()[0] for line in commands] == ["iptsim-check", "iptsim-expect", "iptaudit"]
     environment, work = linked(os.path.join(folder, "commands"), iptsim=iptsim.path, iptaudit=iptaudit.path), os.path.join(folder, "work")
     os.mkdir(work)
@@ -29,4 +29,4 @@ def test_pipeline(name, folder, iptsim, iptaudit):
     for line in commands:
         ended = subprocess.run(line, shell=True, cwd=work, env=environment, capture_output=True, check=False)
         assert (line, ended.returncode, ended.stderr) == (line, 0, b"")
-    assert re.search("<testsuite .*>", pathlib.Path(os.path.join(work, "expect.xml")).read_text(encoding="utf-8")).group() == REPORT
+    assert re.search("<testsuite .*>", read(work, "expect.xml").decode()).group() == REPORT

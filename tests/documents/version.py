@@ -8,33 +8,26 @@ import re
 import pytest
 
 from tests import ROOT
+from tests.shared import read
 from tests.shared.rows import Row
 from tools.packing.programs import UNRELEASED
 
 PAGES = sorted(name for name in os.listdir(os.path.join(ROOT, "docs")) if name.endswith(".1"))
-
-
-def text(*place):
-    with open(os.path.join(ROOT, *place), encoding="utf-8") as file:
-        return file.read()
-
-
-VERSION = text("VERSION").strip()
+VERSION = read("VERSION").decode().strip()
 
 
 def test_version():
-    """Three numbers on a line."""
-    assert re.fullmatch(r"\d+\.\d+\.\d+\n", text("VERSION"))
+    assert re.fullmatch(rb"\d+\.\d+\.\d+\n", read("VERSION"))
 
 
 def test_changes():
-    assert re.search(r"(?m)^## (\S+)$", text("CHANGELOG.md"))[1] == VERSION
+    assert re.search(r"(?m)^## (\S+)$", read("CHANGELOG.md").decode())[1] == VERSION
 
 
 @pytest.mark.parametrize("page", PAGES)
 def test_page(page):
     """By the macros of mdoc or of man."""
-    assert re.search(r'(?m)^(?:\.Os |\.TH .*")iptsim (\S+?)"?$', text("docs", page))[1] == VERSION
+    assert re.search(r'(?m)^(?:\.Os |\.TH .*")iptsim (\S+?)"?$', read("docs", page).decode())[1] == VERSION
 
 
 @pytest.mark.parametrize("word", ["--version", "-V"])

@@ -8,15 +8,9 @@
 import pytest
 
 from commands.extensions import EXTENSIONS, OTHER_NAMES, is_known
+from tests.commands.fit import NAMES, on
 from tests.shared import differences
-from tests.shared.rows import same
-
-FILES = {"S": b"ssh 22/tcp\nhttp 80/tcp\n",
-         "P": b"ip 0\nipencap 4\nipv6 41\nipip 94\npim 103\nisis 124\nmobility-header 135\n"}
-
-
-def dump(lines):
-    return b"*filter\n" + b"".join(line + b"\n" for line in lines) + b"COMMIT\n"
+from tests.shared.rows import same, section
 
 
 def asked(row):
@@ -30,17 +24,17 @@ def asked(row):
             yield b" ".join([before, name, *[b"x"] * len(option.values)]), option.place == "=" and name not in OTHER_NAMES
 
 
-KNOWN = [each for row in EXTENSIONS if row.kind != "command" for each in asked(row)]
+KNOWN = [(number, *row) for number, row in enumerate((each for row in EXTENSIONS if row.kind != "command" for each in asked(row)), 1)]
 
 
 @pytest.fixture(scope="module")
 def faults(iptsim):
     """The faults of the session of all these rules, by the numbers of lines."""
-    session = b"".join(b"iptables -A FORWARD %s\n" % words for words, _ in KNOWN)
+    session = b"".join(b"iptables -A FORWARD %s\n" % words for _, words, _ in KNOWN)
     return {int(words[1][:-1]): words[2] for words in (line.split() for line in iptsim.said(["session"], session).splitlines())}
 
 
-@pytest.mark.parametrize("number, words, known", [(number, *row) for number, row in enumerate(KNOWN, 1)], ids=[words.decode() for words, _ in KNOWN])
+@pytest.mark.parametrize("number, words, known", KNOWN, ids=[words.decode() for _, words, _ in KNOWN])
 def test_table(number, words, known, faults):
     """A word that isn't known has P1, P7 or T11; QUEUE, which is P3, isn't either."""
     fault = faults.get(number, b"")
@@ -52,32 +46,28 @@ UNFIT = (
     "-s localhost", "-p udp --dport \"\"", "-fj DROP", "-mcomment", "-AINPUT", "iptables -s 1.1.1.1 -A", "-A INPUT -j DROP -t filter",
     "-t nat -t filter", "-j DROP --", "-p icmp --icmp-type 3/0:3", "-s 1.2.3.4/255.0.255.0", "-i ", "-p udp --dport 80:22",
     "-p udp --dport 1:65536", "-p udp -m udp --dport 1:0", "-p tcp -m tcp -m tcp", "-L", "-S", "-Z", "-V", "iptables -h", "iptables -v",
-    "iptables -w", "iptables -c", "-A INPUT -j DROP -v", "-A INPUT -j DROP -w", "-A INPUT -j DROP -c",
-)
-ASSUMED_IN_FILE = ("-j QUEUE", "-j NFQUEUE")
+    "iptables -w", "iptables -c", "-A INPUT -j DROP -v", "-A INPUT -j DROP -w", "-A INPUT -j DROP -c")
 
 
 def line(entry):
     return differences.session_line(entry)[len("iptables "):].encode()
 
 
-# What iptables takes, as docs/differences.tsv has it.
-GIVEN = [row for row in differences.rows_of(differences.read()) if row.form == "rule" and row.instead and len(row.entries("given")) == 1]
-GIVEN = [row for row in GIVEN if not row.entries("given")[0].startswith(ASSUMED_IN_FILE)]
+# What iptables takes, as docs/differences.tsv has it, but for what bin/fit asks about.
+GIVEN = [row for row in differences.rows_of(differences.read()) if row.form == "rule" and row.instead and len(row.entries("given")) == 1
+         and not row.entries("given")[0].startswith(("-j QUEUE", "-j NFQUEUE"))]
 FITS = [row for row in GIVEN if not row.entries("given")[0].startswith(UNFIT)]
 
 
 def fit(command, rows):
-    """bin/fit on the rules of some rows."""
-    data = dump(line(row.entries("given")[0]) for row in rows)
-    return command("fit").run(["--services", "S", "--protocols", "P", "d"], {"d": data, **FILES})
+    return command("fit").run(*on(section(*(line(row.entries("given")[0]) for row in rows)), NAMES))
 
 
 def test_rules_that_fit(command, iptsim):
     """What comes of them is listed as iptables lists it."""
     assert len(FITS) > 100
     taken = fit(command, FITS)
-    due, came = (iptsim.said(["restore"], data) for data in (dump(line(entry) for row in FITS for entry in row.entries("instead")), taken.stdout))
+    due, came = (iptsim.said(["restore"], data) for data in (section(*(line(entry) for row in FITS for entry in row.entries("instead"))), taken.stdout))
     same((0, due), (taken.returncode, came))
 
 

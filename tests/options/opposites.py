@@ -11,7 +11,6 @@ before which iptables takes no `!`, are skipped. `python3 -m tests.options.oppos
 
 import json
 import os
-import shutil
 import subprocess
 import sys
 import time
@@ -20,10 +19,10 @@ import pytest
 
 from commands.extensions import MATCHES
 from tests import ROOT
+from tests.options.parts import called, path_of
 from tests.options.parts.packets import HERE, KINDS, MARK, UNTRACKED, established
 from tests.options.parts.values import BEFORE_OPTION, value, words_before
 
-PATH = os.environ.get("PATH", "") + ":/usr/sbin:/sbin"
 # The longest that a packet may take to be counted, in seconds.
 PATIENCE = 2
 # What an option takes to be asked at all: words behind it.
@@ -40,30 +39,23 @@ UNOPPOSED = {("conntrack", "--ctstatus"), ("conntrack", "--ctproto"), ("connbyte
 CHAINS = ("OUTPUT", "INPUT")
 
 
-def called(tool, words, text=""):
-    return subprocess.run([shutil.which(tool, path=PATH), *words], input=text, stdout=subprocess.PIPE, stderr=subprocess.PIPE, text=True, check=False)
-
-
 def rule_words(match, option, inverted):
     """The words of the rule with an option, after `!` or not."""
     first = option.names[0].decode()
-    values = [value(match, option, place, kind) for place, kind in enumerate(option.values)]
-    values = VALUES.get(first, values)
+    values = VALUES.get(first) or [value(match, option, place, kind) for place, kind in enumerate(option.values)]
     beside = [*BESIDE.get(match.name.decode(), []), *BESIDE_OPTION.get(first, [])]
     words = [*BEFORE_OPTION.get(first, []), *(["!"] if inverted else []), first, *values, *beside]
     return [word.format(rule="inverted" if inverted else "plain") for word in words]
 
 
-def rules(match, option, chains, kinds):
+def rules(match, option, chains):
     """The ruleset that counts by an option in some chains, and by what has to hold of each kind of packets."""
-    before = words_before(match)
-    fits, begins = before[:-2], before[-2:]
+    *fits, begins, name = words_before(match)
     lines = ["*raw", f"-A OUTPUT -s {UNTRACKED} -j CT --notrack", "COMMIT", "*filter", ":INPUT DROP"]
     lines += [f"-A {chain} -m mark --mark {MARK} -j ACCEPT" for chain in CHAINS]
-    lines += [f"-A OUTPUT -m comment --comment kind-{number} " + " ".join(kind.holds) for number, kind in enumerate(kinds)]
-    for chain in chains:
-        counted = [("all", []), ("plain", [*begins, *rule_words(match, option, False)]), ("inverted", [*begins, *rule_words(match, option, True)])]
-        lines += [f"-A {chain} " + " ".join([*fits, "-m", "comment", "--comment", name, *words]) for name, words in counted]
+    lines += [f"-A OUTPUT -m comment --comment kind-{number} " + " ".join(kind.holds) for number, kind in enumerate(KINDS)]
+    counted = [("all", []), ("plain", [begins, name, *rule_words(match, option, False)]), ("inverted", [begins, name, *rule_words(match, option, True)])]
+    lines += [" ".join(["-A", chain, *fits, "-m", "comment", "--comment", rule, *words]) for chain in chains for rule, words in counted]
     return "\n".join([*lines, "COMMIT", ""])
 
 
@@ -79,22 +71,22 @@ def counts():
 
 def counted(kind, chains, number):
     """How often each rule counts one packet of a kind; None where it doesn't come as it is meant."""
-    before, due = counts(), [("OUTPUT", f"kind-{number}")]
+    before = counts()
     kind.send()
     until = time.monotonic() + PATIENCE
     while time.monotonic() < until:
         after = counts()
         found = {key: after[key] - before[key] for key in after}
-        seen = all(found[key] == 1 for key in due)
+        seen = found["OUTPUT", f"kind-{number}"] == 1
         if seen and ("INPUT" not in chains or not kind.comes_in or found["INPUT", "all"] or not found.get(("OUTPUT", "all"), 1)):
             return found
     return None
 
 
-def chains_of(match, option, kinds):
+def chains_of(match, option):
     """The chains in which the kernel takes both rules; None where iptables takes no `!`, and nothing where they can't be had."""
     for chains in (CHAINS, CHAINS[:1], CHAINS[1:]):
-        if called("iptables-legacy-restore", [], rules(match, option, chains, kinds)).returncode == 0:
+        if called("iptables-legacy-restore", [], rules(match, option, chains)).returncode == 0:
             return chains
     text = [*words_before(match), *rule_words(match, option, False)]
     plain = any(called("iptables-legacy", ["-A", chain, *text]).returncode == 0 for chain in CHAINS)
@@ -118,11 +110,11 @@ OPTIONS = {key: row for key, row in OPTIONS.items() if row[2] or key in UNOPPOSE
 def inside():
     """Tries each option, in the namespace: what came of each, and why nothing did."""
     called("ip", ["link", "set", "lo", "up"])
-    if shutil.which("ipset", path=PATH):
+    if path_of("ipset"):
         called("ipset", ["create", "tried", "hash:ip"])
         called("ipset", ["add", "tried", HERE])
     for (match_name, name), (match, option, _) in OPTIONS.items():
-        chains = chains_of(match, option, KINDS)
+        chains = chains_of(match, option)
         why = "iptables takes no ! before it" if chains is None else "iptables or the kernel doesn't have it"
         yield f"{match_name} {name}", list(tried(match, option, chains)) if chains else why
 
@@ -131,11 +123,11 @@ def lacking():
     """Why nothing can be tried; nothing where it can."""
     if os.getuid() != 0:
         return "it isn't root that runs this"
-    absent = [tool for tool in ("unshare", "ip", "iptables-legacy", "iptables-legacy-save", "iptables-legacy-restore") if not shutil.which(tool, path=PATH)]
+    absent = [tool for tool in ("unshare", "ip", "iptables-legacy", "iptables-legacy-save", "iptables-legacy-restore") if not path_of(tool)]
     if absent:
         return f"{absent[0]} isn't there"
     length = MATCHES[b"length"]
-    ended = called("unshare", ["--net", shutil.which("iptables-legacy-restore", path=PATH)], rules(length, length.options[0], CHAINS, KINDS))
+    ended = called("unshare", ["--net", path_of("iptables-legacy-restore")], rules(length, length.options[0], CHAINS))
     return "iptables-legacy can't be used in a namespace" if ended.returncode else None
 
 
@@ -145,7 +137,7 @@ def found():
     why = lacking()
     if why:
         pytest.skip(why)
-    call = [shutil.which("unshare", path=PATH), "--net", sys.executable, "-m", "tests.options.opposites"]
+    call = [path_of("unshare"), "--net", sys.executable, "-m", "tests.options.opposites"]
     return json.loads(subprocess.run(call, cwd=ROOT, stdin=subprocess.DEVNULL, stdout=subprocess.PIPE, check=True).stdout)
 
 

@@ -9,15 +9,13 @@
 import functools
 import os
 import re
-import shutil
-import subprocess
 
 import pytest
 
 from commands.extensions import EXTENSIONS
-from tests.options.parts.values import BEFORE_OPTION, words_before, value
+from tests.options.parts import called, path_of
+from tests.options.parts.values import BEFORE_OPTION, value, words_before
 
-PATH = os.environ.get("PATH", "") + ":/usr/sbin:/sbin"
 VERSION = "v1.8.9"
 LIBRARIES = "/usr/lib/x86_64-linux-gnu/xtables"
 
@@ -37,20 +35,6 @@ REFUSED = ("--restore-skmark",)
 SURPLUS = "surplus"
 
 
-def called(tool, words):
-    return subprocess.run([shutil.which(tool, path=PATH), *words], stdin=subprocess.DEVNULL, stdout=subprocess.PIPE, stderr=subprocess.PIPE,
-                          text=True, check=False)
-
-
-def taken(before, name, values):
-    """Whether an option takes just these values: what iptables says of a word more, and of a word fewer."""
-    more = called("iptables-translate", ["-A", "INPUT", *before, name, *values, SURPLUS]).stderr
-    exact = f"Bad argument `{SURPLUS}'" in more or NO_SET in more
-    if values:
-        exact = exact and called("iptables-translate", ["-A", "INPUT", *before, name, *values[:-1]]).returncode != 0
-    return exact
-
-
 def options_of(extension):
     """The options of a match or target, or of any rule, each name with the words before it and values."""
     before = words_before(extension)
@@ -66,26 +50,23 @@ OPTIONS = [row for extension in EXTENSIONS if extension.kind != "command" and ex
 
 @pytest.fixture(autouse=True, scope="module")
 def iptables():
-    if not shutil.which("iptables-translate", path=PATH) or VERSION not in called("iptables", ["--version"]).stdout:
+    if not path_of("iptables-translate") or VERSION not in called("iptables", ["--version"]).stdout:
         pytest.skip(f"iptables {VERSION} isn't there")
 
 
 @pytest.mark.parametrize("before, name, values", OPTIONS, ids=[" ".join([*before, name, *values]) for before, name, values in OPTIONS])
 def test_values(before, name, values):
-    """How many words an option takes."""
-    assert taken(before, name, values)
+    """An option takes just these values: what iptables says of a word more, and of a word fewer."""
+    more = called("iptables-translate", ["-A", "INPUT", *before, name, *values, SURPLUS]).stderr
+    assert f"Bad argument `{SURPLUS}'" in more or NO_SET in more
+    assert not values or called("iptables-translate", ["-A", "INPUT", *before, name, *values[:-1]]).returncode != 0
 
 
 @functools.lru_cache(maxsize=None)
-def common():
-    """The options of each rule, by the help."""
-    return set(re.findall(r"(?<![\w-])--[a-z][a-z0-9-]+", called("iptables", ["--help"]).stdout))
-
-
-def named_in_help(flag, name):
-    """The options that the help of a match or target names, but for those of each rule; nothing where there is no help."""
-    ended = called("iptables", [flag, name, "--help"])
-    return None if ended.returncode else set(re.findall(r"(?<![\w-])--[a-z][a-z0-9-]+", ended.stdout)) - common()
+def named_in_help(*words):
+    """The options that a help names; none where there is no help."""
+    ended = called("iptables", [*words, "--help"])
+    return set() if ended.returncode else set(re.findall(r"(?<![\w-])--[a-z][a-z0-9-]+", ended.stdout))
 
 
 def test_help():
@@ -98,8 +79,8 @@ def test_help():
     for file in sorted(os.listdir(LIBRARIES)):
         name = re.match(r"lib(?:xt|ipt)_(.*)\.so$", file)
         for kind in ("-m", "-j") if name and name[1] not in (*ELSEWHERE, *UNREAD) else ():
-            found = named_in_help(kind, name[1])
+            found = named_in_help(kind, name[1]) - named_in_help()
             if found and (kind, name[1]) not in known:
                 absent.append(f"{kind} {name[1]}")
-            absent += [f"{kind} {name[1]} {option}" for option in sorted((found or set()) - known.get((kind, name[1]), set()) - set(REFUSED))]
+            absent += [f"{kind} {name[1]} {option}" for option in sorted(found - known.get((kind, name[1]), set()) - set(REFUSED))]
     assert absent == []

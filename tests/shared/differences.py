@@ -1,12 +1,11 @@
 """The rows of docs/differences.tsv, which says at its top what its columns are."""
 
 import collections
-import os
 import re
 
-from tests import ROOT
+from tests.shared import read as bytes_of
 
-DOCUMENT = os.path.join("docs", "differences.tsv")
+DOCUMENT = "docs/differences.tsv"
 COLUMNS = ("theme", "form", "given", "iptsim", "instead", "iptables")
 FORMS = ("rule", "file")
 FAULT = re.compile(r"[A-Z][0-9]+")
@@ -24,23 +23,22 @@ class Row(collections.namedtuple("Row", ("number",) + COLUMNS)):
         """What stands in backquotes in a column, spelled out."""
         return [spelled_out(text) for text in re.findall(r"`([^`]+)`", getattr(self, column))]
 
-    def is_fault(self):
-        return any(FAULT.fullmatch(text) for text in self.entries("iptsim"))
 
-    def trouble(self):
-        """Why it can't be run, or None."""
-        for name in COLUMNS:
-            if getattr(self, name).count("`") % 2 or "``" in getattr(self, name):
-                return f"the backquotes of the column {name} are not in pairs"
-        if not self.theme or self.theme != self.theme.strip():
-            return "the theme is missing, or has blanks around it"
-        if self.form not in FORMS:
-            return f"the form is {self.form or 'missing'}, and not one of {', '.join(FORMS)}"
-        if not self.entries("given"):
-            return "nothing is given"
-        if not ANSWER.fullmatch(self.iptsim):
-            return "the answer of iptsim can't be read"
-        return None
+def trouble_of(cells):
+    """Why a line can't be read as a row, or None."""
+    if len(cells) != len(COLUMNS):
+        return f"{len(cells)} columns, and not {len(COLUMNS)}"
+    row = Row(0, *cells)
+    for name, cell in zip(COLUMNS, cells):
+        if cell.count("`") % 2 or "``" in cell:
+            return f"the backquotes of the column {name} are not in pairs"
+    if not row.theme or row.theme != row.theme.strip():
+        return "the theme is missing, or has blanks around it"
+    if row.form not in FORMS:
+        return f"the form is {row.form or 'missing'}, and not one of {', '.join(FORMS)}"
+    if not row.entries("given"):
+        return "nothing is given"
+    return None if ANSWER.fullmatch(row.iptsim) else "the answer of iptsim can't be read"
 
 
 def spelled_out(text):
@@ -50,36 +48,19 @@ def spelled_out(text):
 
 
 def rows_of(text):
-    """All rows of the file's text. Raises Malformed where one of them can't be read."""
-    rows, troubles, head = [], [], None
-    for number, line in enumerate(text.split("\n")[:-1], 1):
-        cells = line.split("\t")
-        if line.startswith("#"):
-            continue
-        if head is None:
-            head = tuple(cells)
-            if head != COLUMNS:
-                troubles.append(f"{DOCUMENT}:{number}: the first row has to be {', '.join(COLUMNS)}")
-        elif len(cells) != len(COLUMNS):
-            troubles.append(f"{DOCUMENT}:{number}: {len(cells)} columns, and not {len(COLUMNS)}")
-        else:
-            row = Row(number, *cells)
-            rows.append(row)
-            if row.trouble():
-                troubles.append(f"{DOCUMENT}:{number}: {row.trouble()}")
-    if not text.endswith("\n"):
-        troubles.append(f"{DOCUMENT}: the last line has no newline")
-    if not rows:
-        troubles.append(f"{DOCUMENT}: there is no row")
-    if troubles:
-        raise Malformed("\n".join(troubles))
-    return rows
+    """All rows of the file's text, below their names. Raises Malformed where one of them can't be read."""
+    *lines, end = enumerate(text.split("\n"), 1)
+    head, *rows = [(number, tuple(line.split("\t"))) for number, line in lines if not line.startswith("#")]
+    troubles = {number: trouble_of(cells) for number, cells in rows}
+    troubles[head[0]] = None if head[1] == COLUMNS else f"the first row has to be {', '.join(COLUMNS)}"
+    troubles[end[0]] = "the last line has no newline" if end[1] else None if rows else "there is no row"
+    if any(troubles.values()):
+        raise Malformed("\n".join(f"{DOCUMENT}:{number}: {trouble}" for number, trouble in troubles.items() if trouble))
+    return [Row(number, *cells) for number, cells in rows]
 
 
 def read():
-    """The text of the file."""
-    with open(os.path.join(ROOT, DOCUMENT), encoding="utf-8", newline="\n") as file:
-        return file.read()
+    return bytes_of(DOCUMENT).decode()
 
 
 def is_command(entry):

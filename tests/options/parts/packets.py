@@ -31,20 +31,12 @@ def udp(source=OPEN, target=CLOSED):
     return struct.pack("!HHHH", source, target, 12, 0) + b"text"
 
 
-def echo_request():
-    return struct.pack("!BBHHH", 8, 0, 0xF7FE, 1, 0)
-
-
-def header(protocol, source, offset, first):
-    """The first 20 bytes of a packet, of which the kernel fills in the length and the sum. An offset makes it a later fragment."""
-    return struct.pack("!BBHHHBBH4s4s", 0x45, first, 0, 7, offset, 64, protocol, 0, socket.inet_aton(source), socket.inet_aton(HERE))
-
-
 def sent(protocol, payload, source=HERE, offset=0, first=0):
-    """Sends one packet, which a match may drop."""
+    """Sends one packet, which a match may drop. The kernel fills in its length and its sum. An offset makes it a later fragment."""
+    header = struct.pack("!BBHHHBBH4s4s", 0x45, first, 0, 7, offset, 64, protocol, 0, socket.inet_aton(source), socket.inet_aton(HERE))
     with socket.socket(socket.AF_INET, socket.SOCK_RAW, socket.IPPROTO_RAW) as raw, contextlib.suppress(PermissionError):
         raw.setsockopt(socket.IPPROTO_IP, NODEFRAG, 1)
-        raw.sendto(header(protocol, source, offset, first) + payload, (HERE, 0))
+        raw.sendto(header + payload, (HERE, 0))
 
 
 def established():
@@ -67,12 +59,13 @@ def by_program():
         plain.sendto(b"text", (HERE, CLOSED))
 
 
+ECHO_REQUEST = struct.pack("!BBHHH", 8, 0, 0xF7FE, 1, 0)
 KINDS = [
     Kind("tcp", lambda: sent(TCP, tcp(SYN)), ["-p", "tcp", "-m", "conntrack", "--ctstate", "NEW"], True),
     Kind("tcp with options", lambda: sent(TCP, tcp(SYN, b"\x02\x04\x00\x03\x01\x01\x01\x00", OPEN + 1)), ["-p", "tcp", "--tcp-option", "2"], True),
     Kind("udp", lambda: sent(UDP, udp()), ["-p", "udp"], True),
     Kind("datagram of a program", by_program, ["-p", "udp", "-m", "owner", "--uid-owner", str(os.getuid())], True),
-    Kind("icmp", lambda: sent(ICMP, echo_request()), ["-p", "icmp"], True),
+    Kind("icmp", lambda: sent(ICMP, ECHO_REQUEST), ["-p", "icmp"], True),
     Kind("another protocol", lambda: sent(OTHER, b"text"), ["-p", str(OTHER)], True),
     Kind("a service", lambda: sent(UDP, udp(), first=0xB8), ["-m", "tos", "--tos", "0xb8/0xff"], True),
     Kind("a later fragment", lambda: sent(TCP, tcp(SYN), offset=100), ["-f", "-p", "tcp"], False),
