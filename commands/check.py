@@ -131,4 +131,5 @@ def main():
     return status
 
 
-finish(main)
+if __name__ == "__main__":
+    finish(main)

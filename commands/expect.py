@@ -219,4 +219,5 @@ def main():
     return 0 if is_passed(outcomes) else 1
 
 
-finish(main)
+if __name__ == "__main__":
+    finish(main)

@@ -85,4 +85,5 @@ def main():
     return 0
 
 
-finish(main)
+if __name__ == "__main__":
+    finish(main)

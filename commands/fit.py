@@ -255,4 +255,5 @@ def main():
     return fit([(name, read(name)) for name in words.files], words.noflush, names, assumptions)
 
 
-finish(main)
+if __name__ == "__main__":
+    finish(main)
