@@ -1,7 +1,7 @@
 """Runs of commands in files beside the tests: rows (tests/shared/rows) whose files, input and output stand line by line, as they are.
 
 As in files of rows (tests/shared/row_files) each line begins with a sign, blank lines and those that begin with `#` are passed over, and a line
-`<\\ ` is written with escapes. The signs, and what stands behind them:
+whose sign has a `\\` behind it is written with escapes. The signs, and what stands behind them:
 
     :   what a run is about; the lines behind it are its own
     $   the words, as for a shell: variables may stand before them, and behind them `>` with the file to which standard output goes
@@ -14,6 +14,7 @@ A line `|- `, or `<- `, is the last one of a text that doesn't end in a newline;
 """
 
 import itertools
+import os
 import re
 import shlex
 
@@ -43,7 +44,7 @@ def runs_in(place):
     """The runs of a file of tests, as rows."""
     runs, texts, parts, name = [], {}, {}, ""
     for line in filter(None, read("tests", place).decode().split("\n")):
-        sign, text = line[0], line[2:]
+        sign, text = line[0], os.fsdecode(text_of(line, {}))
         if sign == ":":
             runs.append({"about": text, "words": [], "files": {}, "output": b"", "status": 0, "messages": b"", "input": b""})
         elif sign == "$":
