@@ -5,7 +5,7 @@ whose sign has a `\\` behind it is written with escapes. The signs, and what sta
 
     :   what a run is about; the lines behind it are its own
     $   the words, as for a shell: variables may stand before them, and behind them `>` with the file to which standard output goes
-    @   the name of a file beside the run, whose lines come next, each after `|`
+    @   the name of a file beside the run, or beside each where no run has begun; its lines come next, each after `|`
     >   a line of standard input; `<` one of standard output; `!` one of standard error
     =   the status, if it isn't 0
     *   the name of a text, whose lines come next, each after `|`; a line `|* NAME`, or `<* NAME`, stands for the lines of that text
@@ -42,15 +42,17 @@ def call_of(text):
 
 def runs_in(place):
     """The runs of a file of tests, as rows."""
-    runs, texts, parts, name = [], {}, {}, ""
+    runs, beside_each, texts = [], {}, {}
+    files, parts, name = beside_each, texts, ""
     for line in filter(None, read("tests", place).decode().split("\n")):
         sign, text = line[0], os.fsdecode(text_of(line, {}))
         if sign == ":":
-            runs.append({"about": text, "words": [], "files": {}, "output": b"", "status": 0, "messages": b"", "input": b""})
+            files = dict(beside_each)
+            runs.append({"about": text, "words": [], "files": files, "output": b"", "status": 0, "messages": b"", "input": b""})
         elif sign == "$":
             runs[-1].update(call_of(text))
         elif sign in "@*":
-            parts, name = runs[-1]["files"] if sign == "@" else texts, text
+            parts, name = files if sign == "@" else texts, text
             parts[name] = b""
         elif sign == "|":
             parts[name] += data_of(line, texts)
