@@ -3,10 +3,12 @@
 import os
 import subprocess
 
-from tests.programs.audited.documents import GATEWAY, OTHER, WITHOUT, ruleset
-from tests.programs.audited.rulesets import CHANGED, COVERED, SAME
+from tests.programs.audited.rulesets import CHANGED, COVERED, SAME, ruleset
 from tests.shared.rows import Row, each, outcome, same
 
+WEB, MAIL = b"-A INPUT -p tcp -m tcp --dport 22:25 -j ACCEPT", b"-A INPUT -p tcp -m tcp --dport 25 -j DROP"
+NAMES = b"-A INPUT -p udp -m udp --dport 53 -j ACCEPT"
+GATEWAY, WITHOUT, OTHER = (ruleset(b"DROP", rules) for rules in ([WEB, MAIL, NAMES], [WEB, NAMES], [MAIL, NAMES]))
 LINE = b"# iptsim-fit: for trials; assumed limit=true \xff\n"
 OTHER_LINE = b"# iptsim-fit: for trials; assumed recent=false\n"
 COUNTS = b"2 rules, 0 dead, 0 unclear\n"
@@ -37,7 +39,7 @@ def question_rows():
         filling = filling * 6 + b"#" * (before - 6 * len(filling) - 1) + b"\n"
         yield Row(f"a line after {before} bytes", ["dead", "R"], {"R": filling + LINE + WITHOUT}, COUNTS, 0, LINE)
     yield Row("a pipe", ["dead", "/dev/stdin"], {}, COUNTS, 0, LINE, input=LINE + WITHOUT)
-    files = {"O": LINE + GATEWAY, "N": OTHER_LINE + WITHOUT, "B": LINE + ruleset(b"INPUT -j nowhere"), "M": OTHER}
+    files = {"O": LINE + GATEWAY, "N": OTHER_LINE + WITHOUT, "B": LINE + ruleset(b"DROP", [b"-A INPUT -j nowhere"]), "M": OTHER}
     yield Row("of both files", ["compare", "O", "N"], files, SAME + CHANGED % (1, 1, 0), 0, LINE + OTHER_LINE)
     yield Row("of one file twice", ["compare", "N", "N"], files, SAME + CHANGED % (0, 0, 0), 0, OTHER_LINE * 2)
     yield Row("of the old file", ["compare", "--steps", "0", "O", "M"], files, UNCLEAR, 3, LINE)
