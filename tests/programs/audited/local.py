@@ -2,7 +2,7 @@
 
 import ipaddress
 
-from tests.programs.audited.rulesets import SAME
+from tests.shared.run_files import runs_in
 from tests.shared.rows import Row, each
 
 TYPES = ("LOCAL", "BROADCAST", "MULTICAST")
@@ -55,30 +55,6 @@ def type_rows():
                                lambda name, other=other: "DROP by policy" if name == other else "ACCEPT by INPUT 1")
 
 
-# Rules that ask more than one type, or another one: these conditions stay open.
-OPEN = dump([f"-m addrtype {words} -j ACCEPT" for words in (
-    "--dst-type LOCAL --limit-iface-in", "--dst-type LOCAL,MULTICAST", "--src-type UNICAST", "--src-type LOCAL --dst-type LOCAL", "! --dst-type MULTICAST")])
-DEAD = b"dead INPUT 2 -A INPUT -d 127.0.0.1/32 -j DROP\n  taken by INPUT 1 (ACCEPT)\n2 rules, 1 dead, 0 unclear\n0 redundant, 1 shadowed\n"
-PLAIN = dump(["-m addrtype --dst-type LOCAL -j ACCEPT", "-d 127.0.0.1 -j DROP"])
-
-
-def local_rows():
-    """What stays open, and addresses that can't be read."""
-    yield Row("--local: what stays open", ["dead", "--local", "192.0.2.1/24", "R"], {"R": OPEN},
-              b"5 rules, 0 dead, 0 unclear\n4 conditions open: addrtype 4\n", 0)
-    yield Row("--local: a dead rule", ["dead", "--local", "192.0.2.1", "R"], {"R": PLAIN}, DEAD, 1)
-    yield Row("--local: compare", ["compare", "--local", "192.0.2.1", "O", "N"],
-              {"O": PLAIN, "N": dump(["-m iprange --dst-range 127.0.0.0-127.255.255.254 -j ACCEPT", "-d 192.0.2.1 -j ACCEPT"])},
-              SAME + b"4 changed rules, 1 dead, 0 unclear\n", 0)
-    yield Row("--local: an answer to what is known", ["dead", "--local", "192.0.2.1", "--when", "addrtype --dst-type LOCAL", "R"], {"R": PLAIN},
-              b"", 2, b"iptaudit: no rule has this condition: addrtype --dst-type LOCAL\n")
-    for words in ("", "x", "192.0.2.1,", "192.0.2.1/33", "192.0.2.256", "eth0", "192.0.2.1/24/24", "192.0.2.1 /24"):
-        yield Row(f"--local {words!r}", ["dead", "--local", words, "R"], {"R": PLAIN}, b"", 2, f"iptaudit: no addresses: {words}\n".encode())
-    most = ",".join(f"10.0.{number}.1/24" for number in range(8))
-    yield Row("--local: the most addresses", ["dead", "--local", most, "R"], {"R": PLAIN}, DEAD, 1)
-    yield Row("--local: more", ["dead", "--local", f"{most},10.1.0.1", "R"], {"R": PLAIN}, b"", 2, f"iptaudit: more than 8 addresses: {most},10.1.0.1\n".encode())
-
-
-@each(type_rows, local_rows)
+@each(type_rows, runs_in("programs/audited/local.runs"))
 def test_local(row, iptaudit):
     iptaudit.check(row)
