@@ -5,6 +5,7 @@ more, and all of these have to be refused. And the documents of a schema have al
 """
 
 import functools
+import itertools
 import json
 import os
 
@@ -13,52 +14,13 @@ import pytest
 from tests import ROOT
 from tests.programs.audited.documents import schema_rows
 from tests.shared import read
-from tests.shared.rows import section
+from tests.shared.run_files import runs_in
 
 jsonschema = pytest.importorskip("jsonschema")
-DUMP = section(
-    b":INPUT DROP [0:0]", b":a -", b"-A INPUT -i lo -j ACCEPT", b"-A INPUT -m conntrack --ctstate ESTABLISHED -j ACCEPT",
-    b"-A INPUT -p tcp -m comment --comment \"\xff\xc3\xa4\x01\" -j a", b"-A INPUT -p udp -m multiport --ports 53,123 -j DROP",
-    b"-A a -p tcp -m tcp --dport 22 -j REJECT --reject-with tcp-reset")
-LOCAL = b"packet INPUT src=1.1.1.1 dst=2.2.2.2 proto=47 in=lo"
-LOGIN = b"packet INPUT src=1.1.1.1 dst=2.2.2.2 proto=tcp sport=1 dport=22 ct=NEW"
-NAME = b"packet INPUT src=1.1.1.1 dst=2.2.2.2 proto=udp sport=1 dport=54"
-FURTHER = b"packet INPUT src=1.1.1.1 dst=2.2.2.2 proto=udp frag=1"
-PACKETS = [LOCAL, LOGIN, NAME, FURTHER]
-DUE = [b"ACCEPT by INPUT 1", b"REJECT tcp-reset by rule", b"DROP by policy", b"ACCEPT"]
-TESTS = b"\n".join(b"%s -> %s" % pair for pair in zip(PACKETS, DUE)) + b"\n" + LOGIN + b"\n" + LOCAL + b" -> TOOLONG\n"
-REFUSED = b"*filter\n-A INPUT -m \xff\n-A INPUT -p tcp --dport ssh\n-A INPUT -6\n-A INPUT -j ACEPT\n"
-SESSION = b"packet input src=1.1.1.1\niptables -L\niptables -A INPUT -j ACEPT\n"
-LOADS, LOADS_NOT = {"R": DUMP, "E": TESTS}, {"R": b"*filter\n-A INPUT -m limit\nCOMMIT\n", "E": TESTS}
-
 # A schema, which has the name of the command that writes such documents; for each of these its words, files, standard input and status.
-ROWS = {
-    "check": [
-        (["--json", "R"], LOADS, b"", 0),
-        (["--json", "R", "X", "-"], {**LOADS, "X": REFUSED}, b"", 1),
-        (["--json", "--session", "X"], {"X": SESSION}, b"", 1),
-        (["--json", "missing"], LOADS, b"", 2),
-    ],
-    "expect": [
-        (["--json", "R", "E"], LOADS, b"", 1),
-        (["--json", "--quiet", "R", "E"], LOADS, b"", 1),
-        (["--json", "R", "E"], {**LOADS, "E": LOGIN}, b"", 0),
-        (["--json", "R", "E"], {**LOADS, "E": TESTS + b"packet\niptables -F\n"}, b"", 1),
-        (["--json", "R", "E"], {**LOADS, "E": b"packet INPUT\n"}, b"", 1),
-        (["--json", "R", "E"], LOADS_NOT, b"", 1),
-        (["--json", "R", "missing"], LOADS, b"", 2),
-    ],
-    "explain": [
-        (["--json", "R"], LOADS, b"\n".join(PACKETS), 0),
-        (["--json", "--why-not", "R"], LOADS, b"# All\n\n" + b"\n".join(PACKETS), 0),
-        (["--json", "--why-not", "R", os.fsdecode(LOCAL[7:])], LOADS, b"", 0),
-        (["--json", "R", "INPUT", os.fsdecode(LOCAL), "OUTPUT"], LOADS, b"", 1),
-        (["--json", "R"], LOADS, b"", 1),
-        (["--json", "R"], LOADS_NOT, LOCAL, 1),
-        (["--json", "missing"], LOADS, LOCAL, 2),
-    ],
-    "iptaudit": schema_rows(),
-}
+ROWS = {name: [(run.words, run.files, run.input, run.status) for run in runs]
+        for name, runs in itertools.groupby(runs_in("commands/schemas.runs"), lambda run: run.about)}
+ROWS["iptaudit"] = schema_rows()
 
 
 def keys(schema):
