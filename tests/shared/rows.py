@@ -1,7 +1,6 @@
 """Rows of data for tests: runs of a command, each with its words and files, and with what is due, to the byte."""
 
 import contextlib
-import json
 import os
 import pathlib
 import subprocess
@@ -110,11 +109,6 @@ def outcome(ended):
 def section(*lines):
     """A dump of one section with these lines."""
     return b"".join(line + b"\n" for line in (b"*filter", *lines, b"COMMIT"))
-
-
-def written(document):
-    """A document of JSON as the commands for users write it."""
-    return json.dumps(document, indent=2).encode() + b"\n"
 
 
 def script(path, text):
