@@ -5,7 +5,7 @@ whose sign has a `\\` behind it is written with escapes. The signs, and what sta
 
     :   what a run is about; the lines behind it are its own
     $   the words, as for a shell: variables may stand before them, and behind them `>` with the file to which standard output goes
-    @   the name of a file beside the run, or before the first run of one beside each; its lines come next, each after `|`
+    @   the name of a file beside the run, or, before the first run, of one beside each; its lines come next, each after `|`
     >   a line of standard input; `<` one of standard output; `!` one of standard error
     =   the status, if it isn't 0
     *   the name of a text, whose lines come next, each after `|`; a line `|* NAME`, or `<* NAME`, stands for the lines of that text
