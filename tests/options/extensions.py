@@ -8,7 +8,7 @@
 import pytest
 
 from commands.extensions import EXTENSIONS, OTHER_NAMES, is_known
-from tests.commands.fit import NAMES, on
+from tests.commands.fit import LISTS, NAMES
 from tests.shared import differences
 from tests.shared.rows import same, section
 
@@ -60,7 +60,7 @@ FITS = [row for row in GIVEN if not row.entries("given")[0].startswith(UNFIT)]
 
 
 def fit(command, rows):
-    return command("fit").run(*on(section(*(line(row.entries("given")[0]) for row in rows)), NAMES))
+    return command("fit").run([*NAMES, "d"], {"d": section(*(line(row.entries("given")[0]) for row in rows)), **LISTS})
 
 
 def test_rules_that_fit(command, iptsim):
