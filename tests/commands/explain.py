@@ -15,12 +15,8 @@ WALKS = [(packet, b"".join(line + b"\n" for line in lines)) for (packet,), lines
 LOCAL, GRE = (packet for packet, _ in WALKS[:2])
 NOTE = b"  note: a packet without ct is INVALID, and %s tests states\n"
 
-# Rules of FORWARD, each with what is said of why it doesn't match a packet: those of TCP, ICMP and a further fragment.
-TCP = b"FORWARD src=192.0.2.7 dst=198.51.100.9 proto=tcp in=eth0 sport=40000 dport=80 flags=syn,ack ct=NEW,DNAT"
-ICMP = b"FORWARD src=192.0.2.7 dst=198.51.100.9 proto=1 out=eth1 icmp=8/0 ttl=9"
-FURTHER = b"FORWARD src=192.0.2.7 dst=198.51.100.9 proto=udp frag=1 \"in=eth0\""
-FAILING = {packet: [(rule, why) for (rule,), (why,) in rows_in(f"commands/failing_{name}.rows", ">!")]
-           for packet, name in ((TCP, "tcp"), (ICMP, "icmp"), (FURTHER, "further"))}
+# Packets, each with rules of FORWARD that don't match it, and with what is said of why.
+FAILING = {packet: list(zip(rules, whys)) for (packet,), rules, whys in rows_in("commands/failing.rows", "@>!")}
 
 
 def walk_rows():

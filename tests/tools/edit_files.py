@@ -14,6 +14,7 @@ FILES = {
     "src/left.rt": "struct Left;\n\nfn near() {}\n",
     "src/right.rt": "fn far() {}\n\nimpl Left {\n    fn both() {}\n}\n",
     "must-fail/kept.edit": "# function: x::left::near\nfile: src/left.rt\nold: {}\nnew: {;}\n",
+    "src/left/inner.rt": "fn nearer() {}\n",
     "further-edits/left.edits": "# known\nfunction: x::left::near\nold: {}\nnew: {;}\n",
 }
 FAR, TEXTS = "function: x::right::far\n", "old: {}\nnew: {;}\n"
@@ -21,6 +22,7 @@ FAR, TEXTS = "function: x::right::far\n", "old: {}\nnew: {;}\n"
 WELL = f"""# a_
 function: x::left::Left::both
 alone
+file: src/right.rt
 old:   a: b{" "}
 new:
 
@@ -40,10 +42,13 @@ ROWS = (
     ("a name of another file", f"# known\n{FAR}{TEXTS}", "1: known stands in further-edits/left.edits, too"),
     ("a name of must-fail/", f"# a\n{FAR}{TEXTS}\n# kept\n{FAR}{TEXTS}", "6: kept stands in must-fail/kept.edit, too"),
     ("names out of order", f"# b\n{FAR}{TEXTS}\n# a\n{FAR}{TEXTS}", "6: a belongs before b"),
+    ("functions out of order", f"# a\nfunction: x::right::further\n{TEXTS}\n# b\n{FAR}{TEXTS}", "6: b belongs before a"),
     ("no name", f"\n{FAR}", "2: this stands before the first name: function: x::right::far"),
     ("no function", f"# a\n{TEXTS}", "1: a has no 'function:'"),
     ("two functions", f"# a\n{FAR}{FAR}{TEXTS}", "3: this can't stand here: function: x::right::far"),
     ("a function of another module", f"# a\nfunction: x::left::near\n{TEXTS}", "1: a is of another module: x::left::near stands in src/left.rt"),
+    ("a function of an inner module", f"# a\nfunction: x::left::inner::nearer\n{TEXTS}",
+     "1: a is of another module: x::left::inner::nearer stands in src/left/inner.rt"),
     ("a method of another file", f"# a\nfunction: x::left::Left::both\nfile: src/left.rt\n{TEXTS}",
      "1: a is of another module: x::left::Left::both stands in src/left.rt"),
     ("a function of no module", f"# a\nfunction: x::middle::far\n{TEXTS}", "1: a is of another module: x::middle::far stands in no file of src/"),
@@ -70,8 +75,8 @@ def test_crate(crate):
     assert [(edit.name, trouble) for edit in edits_of(ROOT, crate) if (trouble := edit.apply(dict(texts)))] == []
 
 
-@pytest.mark.parametrize("files", [{"further-edits/right.edits": WELL}, {f"must-fail/{edit.name}.edit": edit.text() for edit in READ}],
-                         ids=["further-edits", "must-fail"])
+@pytest.mark.parametrize("files", [{"further-edits/right.edits": WELL}, {"further-edits/lib.edits": WELL},
+                                   {f"must-fail/{edit.name}.edit": edit.text() for edit in READ}], ids=["further-edits", "lib", "must-fail"])
 def test_well_formed(files, folder):
     assert read(folder, files) == READ
 

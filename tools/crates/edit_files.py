@@ -4,7 +4,8 @@ must-fail/NAME.edit is one edit, as `rt must-fail` reads it: lines `file: PATH`,
 Two comments are for tools/edits: `# function: NAME` names the function that the edit makes wrong, as `rt check` prints it, and `# alone` says
 that the edit changes what other functions stand on, as a constant or a method of a trait does.
 
-further-edits/MODULE.edits has the edits of the functions in src/MODULE.rt, by their names, with an empty line between two:
+further-edits/MODULE.edits has the edits of the functions in src/MODULE.rt and below src/MODULE/, but for those that a file of an inner module has;
+lib.edits has those of all modules without a file. They stand by their functions and then by their names, with an empty line between two:
 
     # NAME
     function: CRATE::MODULE::FUNCTION
@@ -13,7 +14,8 @@ further-edits/MODULE.edits has the edits of the functions in src/MODULE.rt, by t
     old: TEXT
     new: TEXT
 
-`alone` and `file` stand only where they say something: without `file` the edit changes src/MODULE.rt. No two edits of a crate have the same name.
+`alone` and `file` stand only where they say something: without `file` the edit changes the file of the module that its function's name says. No two
+edits of a crate have the same name.
 """
 
 import dataclasses
@@ -21,6 +23,7 @@ import os
 import pathlib
 import re
 
+FILE = re.compile(r"further-edits/(.+)\.edits")
 HEADING = re.compile(r"^# (\w+)$", re.M)
 FOR_SCRIPTS = re.compile(r"^# (?=function: |alone$)", re.M)
 
@@ -89,14 +92,15 @@ def file_of(edit, texts):
     return having[0] if named and having and named not in having else named
 
 
-def read_lines(name, lines, file):
-    """An edit from its lines, each with its number, and what is wrong with them. It changes this file where they name no other."""
-    function, alone, old, pairs, troubles = "", False, None, [], []
+def read_lines(name, lines, texts):
+    """An edit from its lines, each with its number, and what is wrong with them. Where they name no file it changes its function's."""
+    function, file, alone, old, pairs, troubles = "", None, False, None, [], []
     for number, line in lines:
         key, _, text = line.partition(":")
         text = text.removeprefix(" ")
         if key == "function" and not function:
             function = text.strip()
+            file = named_file(function, texts)
         elif line == "alone":
             alone = True
         elif key == "file" and old is None:
@@ -104,7 +108,7 @@ def read_lines(name, lines, file):
         elif key == "old" and old is None:
             old = text
         elif key == "new" and old is not None:
-            pairs.append((file, old, text))
+            pairs.append((file or "", old, text))
             old = None
         else:
             troubles.append((number, f"this can't stand here: {line}"))
@@ -126,45 +130,54 @@ def entries(text):
     return found
 
 
-def trouble_of(edit, before, file, texts):
+def module_of(file, modules):
+    """The innermost of these modules that has a file of src/, or "lib"."""
+    names = file.removeprefix("src/").removesuffix(".rt").split("/")
+    return next((module for end in range(len(names), 0, -1) if (module := "/".join(names[:end])) in modules), "lib")
+
+
+def trouble_of(edit, before, module, modules, texts):
     """What is wrong with an edit behind another one in the file of a module, if anything is."""
     if not edit.function:
         return f"{edit.name} has no 'function:'"
     if not edit.pairs:
         return f"{edit.name} has no 'old:' and 'new:'"
-    if file_of(edit, texts) != file:
-        return f"{edit.name} is of another module: {edit.function} stands in {file_of(edit, texts) or 'no file of src/'}"
-    return f"{edit.name} belongs before {before}" if edit.name < before else None
+    file = file_of(edit, texts)
+    if not file or module_of(file, modules) != module:
+        return f"{edit.name} is of another module: {edit.function} stands in {file or 'no file of src/'}"
+    if before and (edit.function, edit.name) < (before.function, before.name):
+        return f"{edit.name} belongs before {before.name}"
+    return None
 
 
-def read_module(path, text, texts):
-    """The edits of a file of further-edits/, each with the number of its first line, and what is wrong, with numbers of lines."""
-    file = re.sub(r"^further-edits/(.*)\.edits$", r"src/\1.rt", path)
-    if file == path:
-        return [], [(1, "a file of further-edits/ is called MODULE.edits")]
+def read_module(module, modules, text, texts):
+    """The edits in the file of one of these modules, each with the number of its first line, and what is wrong, with numbers of lines."""
     (_, _, astray), *named = entries(text)
-    found, before, troubles = [], "", [(number, f"this stands before the first name: {line}") for number, line in astray]
+    found, before, troubles = [], None, [(number, f"this stands before the first name: {line}") for number, line in astray]
     for number, name, lines in named:
-        edit, wrong = read_lines(name, lines, file)
-        trouble = trouble_of(edit, before, file, texts)
+        edit, wrong = read_lines(name, lines, texts)
+        trouble = trouble_of(edit, before, module, modules, texts)
         troubles += wrong or ([(number, trouble)] if trouble else [])
         found.append((number, edit))
-        before = name
+        before = edit
     return found, troubles
 
 
 def edits_of(top, crate):
     """The edits of a crate of the repository at `top`, by their names. Raises Malformed where files of further-edits/ aren't as they should be."""
     folder, found, places, troubles = f"{top}/crates/{crate}", [], {}, []
+    texts = sources(folder)
     for path in paths_below(folder, "must-fail"):
         if path.endswith(".edit"):
             # (other comments, and what is wrong with it, are for `rt must-fail`)
             lines = FOR_SCRIPTS.sub("", read(f"{folder}/{path}")).split("\n")
-            found.append(read_lines(os.path.basename(path).removesuffix(".edit"), list(enumerate(lines, 1)), "")[0])
+            found.append(read_lines(os.path.basename(path).removesuffix(".edit"), list(enumerate(lines, 1)), texts)[0])
             places[found[-1].name] = path
-    texts = sources(folder)
-    for path in paths_below(folder, "further-edits"):
-        edits, wrong = read_module(path, read(f"{folder}/{path}"), texts)
+    modules = {match[1]: path for path in paths_below(folder, "further-edits") if (match := FILE.fullmatch(path))}
+    troubles += [f"crates/{crate}/{path}:1: a file of further-edits/ is called MODULE.edits"
+                 for path in paths_below(folder, "further-edits") if path not in modules.values()]
+    for module, path in modules.items():
+        edits, wrong = read_module(module, modules, read(f"{folder}/{path}"), texts)
         for number, edit in edits:
             if edit.name in places:
                 wrong.append((number, f"{edit.name} stands in {places[edit.name]}, too"))

@@ -1,13 +1,5 @@
-pub mod Around
 pub mod Blocks
-pub mod First
 pub mod Held
-pub mod Moves
 pub mod Packing
-pub mod RowMoves
-pub mod RowParts
-pub mod RowWords
-pub mod Shifts
-pub mod SlotWords
 pub mod StoredRows
 pub mod Summaries

@@ -2,7 +2,7 @@
 
 ghost use Rattle.std.specs.Prelude.{ℕ, ◌≡◌, ◌<◌, ◌≤◌, ◌+◌, ◌∷◌, [], length, insert, remove, take, drop, map, slice_index, IfOk, OnOk, OnErr};
 ghost use Rattle.std.specs.List.Sorted.{IsNonDecreasingBy};
-ghost use Rattle.bits.specs.steps.Around.{AreAround};
+ghost use Rattle.bits.specs.steps.Blocks.{AreAround};
 ghost use Rattle.bits.specs.steps.Held.{redirected};
 
 use crate::moves::{insert_at, insert_pair_at};

@@ -1,12 +1,9 @@
 //! The words of all rows, each in a slot: a change of each, a bit of some, and more room.
 
-ghost use Rattle.std.specs.Prelude.{◌≡◌, ◌≢◌, ◌<◌, ◌≤◌, ◌+◌, ◌-◌, ◌*◌, length, take, drop, slice_index, slice_index_or, IfOk, OnOk, OnErr};
-ghost use Rattle.std.specs.Prelude.{ℕ, false, replicate, ◌++◌};
+ghost use Rattle.std.specs.Prelude.{◌≡◌, ◌≢◌, ◌<◌, ◌≤◌, ◌+◌, ◌-◌, ◌*◌, length, take, drop, slice_index, slice_index_or, IfOk, OnOk, OnErr, ℕ, false, replicate, ◌++◌};
 ghost use Rattle.std.specs.Vec.{vec_capacity};
-ghost use Rattle.bits.specs.steps.Held.{words_in, AreWritten, EachSlot};
+ghost use Rattle.bits.specs.steps.Held.{words_in, AreWritten, EachSlot, Fits, Makes, AreAsMany, IsAppended, WordsInSlots};
 ghost use Rattle.bits.specs.steps.Packing.{all_bits};
-ghost use Rattle.bits.specs.steps.RowMoves.{Fits, Makes};
-ghost use Rattle.bits.specs.steps.SlotWords.{AreAsMany, IsAppended, WordsInSlots};
 ghost use Rattle.bits.specs.steps.Summaries.{SumUp};
 
 use crate::row_move::Move;

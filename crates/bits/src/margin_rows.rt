@@ -1,11 +1,10 @@
 //! Rows with a margin: blank places before their first bits, so that a bit goes in there, or out, while no other moves.
 
-ghost use Rattle.std.specs.Prelude.{◌≡◌, ◌≢◌, ◌<◌, ◌≤◌, ◌+◌, ◌-◌, ◌^◌, ℕ, [], ◌∷◌, length, map, insert, remove, slice_set, slice_index_or};
-ghost use Rattle.std.specs.Prelude.{false, take, All, IfOk, OnOk, OnErr, IsOk, IsTrue, ◌↔◌, ◌%◌};
+ghost use Rattle.std.specs.Prelude.{◌≡◌, ◌≢◌, ◌<◌, ◌≤◌, ◌+◌, ◌-◌, ◌^◌, ℕ, [], ◌∷◌, length, map, insert, remove, slice_set, slice_index_or, false, take, All, IfOk, OnOk, OnErr, IsOk, IsTrue, ◌↔◌, ◌%◌};
 ghost use Rattle.bits.specs.MarginRows.{after_margin, closed_up};
 ghost use Rattle.bits.specs.Rows.{two_words, IsRunWritten};
 ghost use Rattle.bits.specs.steps.Packing.{all_bits, IsPacked};
-ghost use Rattle.bits.specs.steps.RowWords.{words_of};
+ghost use Rattle.bits.specs.steps.StoredRows.{words_of};
 ghost use Rattle.bits.specs.steps.Summaries.{IsSummaryOf};
 
 use crate::row_words::RowWords;

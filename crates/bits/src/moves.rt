@@ -2,7 +2,7 @@
 
 ghost use Rattle.std.specs.Prelude.{◌≡◌, ◌<◌, ◌≤◌, ◌+◌, ◌-◌, length, insert, take, drop, OnOk, OnErr, IsOk};
 ghost use Rattle.std.specs.Vec.{vec_capacity};
-ghost use Rattle.bits.specs.steps.Moves.{Raised};
+ghost use Rattle.bits.specs.steps.Blocks.{Raised};
 
 use std::alloc::AllocError;
 use std::simd::prelude::*;

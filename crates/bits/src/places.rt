@@ -3,7 +3,7 @@
 
 ghost use Rattle.std.specs.Prelude.{ℕ, ◌<◌, ◌≤◌, ◌+◌, ◌*◌, length, slice_index};
 ghost use Rattle.std.specs.List.Sorted.{IsNonDecreasingBy};
-ghost use Rattle.bits.specs.steps.Around.{AreAround};
+ghost use Rattle.bits.specs.steps.Blocks.{AreAround};
 
 /// Where such a count is: at `low`, or up to so many more.
 struct Around {

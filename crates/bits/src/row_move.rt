@@ -2,7 +2,7 @@
 
 ghost use Rattle.std.specs.Prelude.{◌<◌, ◌≤◌, ◌^◌, length};
 ghost use Rattle.bits.specs.steps.Packing.{all_bits};
-ghost use Rattle.bits.specs.steps.RowMoves.{Fits, Makes, TakesWordsIn, GivesWordsUp};
+ghost use Rattle.bits.specs.steps.Held.{Fits, Makes, TakesWordsIn, GivesWordsUp};
 ghost use Rattle.bits.specs.steps.Summaries.{IsSummaryOf};
 
 use crate::sparse::{Way, shift};

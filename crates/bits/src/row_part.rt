@@ -1,10 +1,9 @@
 //! A part of a row: four of its words, where all others are blank.
 
 ghost use Rattle.std.specs.Prelude.{◌≡◌, ℕ, ◌<◌, ◌≤◌, ◌+◌, ◌*◌, ◌^◌, ◌↔◌, IsTrue, true, false, length, replicate, slice_index};
-ghost use Rattle.bits.specs.steps.Held.{Writes, TakesIn, GivesUp};
+ghost use Rattle.bits.specs.steps.Held.{Writes, TakesIn, GivesUp, Fits, Makes, TakesWordsIn, GivesWordsUp};
 ghost use Rattle.bits.specs.steps.Packing.{all_bits};
-ghost use Rattle.bits.specs.steps.RowMoves.{Fits, Makes, TakesWordsIn, GivesWordsUp};
-ghost use Rattle.bits.specs.steps.RowParts.{part_row, IsWithin, HasWord};
+ghost use Rattle.bits.specs.steps.StoredRows.{part_row, IsWithin, HasWord};
 ghost use Rattle.bits.specs.steps.Summaries.{IsSummaryOf};
 
 use crate::row_move::Move;

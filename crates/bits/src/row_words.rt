@@ -2,7 +2,7 @@
 
 ghost use Rattle.std.specs.Prelude.{◌≡◌, ◌<◌, ◌≤◌, ◌+◌, ◌*◌, false, length, take, drop, slice_index, slice_index_or};
 ghost use Rattle.bits.specs.steps.Packing.{all_bits};
-ghost use Rattle.bits.specs.steps.RowWords.{words_of};
+ghost use Rattle.bits.specs.steps.StoredRows.{words_of};
 
 use crate::words::word_at;
 use std::simd::prelude::*;

@@ -1,13 +1,11 @@
 //! Rows of equally many bits, packed 64 to a word. Each row has a slot of its own for its words, so that another row
 //! is one copy and moves none.
 
-ghost use Rattle.std.specs.Prelude.{◌≡◌, ◌≢◌, ◌<◌, ◌≤◌, ◌+◌, ◌-◌, ◌*◌, ◌^◌, [], ◌∷◌, length, map, insert, remove, slice_set, slice_index_or};
-ghost use Rattle.std.specs.Prelude.{false, take, drop, IfOk, OnOk, OnErr, IsOk, IsTrue, ◌↔◌, ◌%◌};
-ghost use Rattle.std.specs.Prelude.{ℕ, All, replicate, ◌++◌};
+ghost use Rattle.std.specs.Prelude.{◌≡◌, ◌≢◌, ◌<◌, ◌≤◌, ◌+◌, ◌-◌, ◌*◌, ◌^◌, [], ◌∷◌, length, map, insert, remove, slice_set, slice_index_or, false, take, drop, IfOk, OnOk, OnErr, IsOk, IsTrue, ◌↔◌, ◌%◌, ℕ, All, replicate, ◌++◌};
 ghost use Rattle.bits.specs.Rows.{two_words, IsRunWritten};
 ghost use Rattle.bits.specs.steps.Packing.{all_bits, IsPacked};
 ghost use Rattle.bits.specs.steps.Held.{AreApart, AreFirstTwo};
-ghost use Rattle.bits.specs.steps.RowWords.{words_of};
+ghost use Rattle.bits.specs.steps.StoredRows.{words_of};
 ghost use Rattle.bits.specs.steps.Summaries.{IsSummaryOf};
 
 use crate::blocks::Blocks;

@@ -1,11 +1,9 @@
 //! The words of all rows, each in a slot: so many words a slot. Of a row whose bits stand close together only a part is kept.
 
 ghost use Rattle.std.specs.Prelude.{◌≡◌, ◌<◌, ◌≤◌, ◌+◌, ◌*◌, ◌^◌, take, replicate, slice_index, IfOk, OnOk, OnErr};
-ghost use Rattle.bits.specs.steps.Held.{words_in, Writes};
+ghost use Rattle.bits.specs.steps.Held.{words_in, Writes, Fits, Makes, IsSlotChanged, IsAppended, IsMovedInto, IsWidened};
 ghost use Rattle.bits.specs.steps.Packing.{all_bits};
-ghost use Rattle.bits.specs.steps.RowMoves.{Fits, Makes};
-ghost use Rattle.bits.specs.steps.RowWords.{words_of};
-ghost use Rattle.bits.specs.steps.SlotWords.{IsSlotChanged, IsAppended, IsMovedInto, IsWidened};
+ghost use Rattle.bits.specs.steps.StoredRows.{words_of};
 ghost use Rattle.bits.specs.steps.Summaries.{IsSummaryOf};
 
 use crate::bit_row::MOST_WORDS;
@@ -35,7 +33,7 @@ pub(crate) struct SlotWords {
 impl Model for SlotWords {
     ghost use Rattle.std.specs.Prelude.{length, ◌*◌, ◌≤◌};
     ghost use Rattle.std.specs.Vec.{vec_capacity};
-    ghost use Rattle.bits.specs.steps.SlotWords.{WordsInSlots};
+    ghost use Rattle.bits.specs.steps.Held.{WordsInSlots};
     ghost use Rattle.bits.specs.steps.StoredRows.{all_words, AreStored};
 
     ghost Value = { WordsInSlots };

@@ -1,11 +1,9 @@
 //! Bits moved into or out of the words that a summary has: words without a bit are passed over.
 
 ghost use Rattle.std.specs.Prelude.{◌≡◌, ◌≢◌, ◌<◌, ◌≤◌, ◌*◌, ◌/◌, ◌%◌, ◌^◌, ◌↔◌, length, true, slice_index, IsTrue};
-ghost use Rattle.bits.specs.steps.First.{Nowhere};
-ghost use Rattle.bits.specs.steps.Held.{TakesIn, GivesUp};
+ghost use Rattle.bits.specs.steps.Summaries.{Nowhere, AreMostMarked, IsMarked, IsSummaryOf, HidesNoWord, StayBlank};
+ghost use Rattle.bits.specs.steps.Held.{TakesIn, GivesUp, Shifts};
 ghost use Rattle.bits.specs.steps.Packing.{all_bits};
-ghost use Rattle.bits.specs.steps.Shifts.{Shifts};
-ghost use Rattle.bits.specs.steps.Summaries.{AreMostMarked, IsMarked, IsSummaryOf, HidesNoWord, StayBlank};
 
 use crate::summary::{kept, marked, next_marked};
 use crate::words::{insert_bit, remove_bit, shift_down, shift_in, shift_out, shift_up, word_at};

@@ -2,8 +2,7 @@
 //! words of a pair share a bit of the summary, and so do pairs that are 64 apart.
 
 ghost use Rattle.std.specs.Prelude.{ℕ, ◌≡◌, ◌<◌, ◌≤◌, ◌^◌, ◌+◌, ◌%◌, true, IfSome, IsTrue, ◌↔◌};
-ghost use Rattle.bits.specs.steps.First.{Nowhere, FromOn};
-ghost use Rattle.bits.specs.steps.Summaries.{HasPair, IsMarked};
+ghost use Rattle.bits.specs.steps.Summaries.{Nowhere, FromOn, HasPair, IsMarked};
 
 /// Whether a summary has the bit of a word. Where it hasn't, no bit is in the word.
 pub fn is_marked(summary: u64, word: usize) -> bool

@@ -1,12 +1,11 @@
 //! Rows, and one more that turns them: a bit that is to stand in each of them is written once, there.
 
-ghost use Rattle.std.specs.Prelude.{◌≡◌, ◌≢◌, ◌<◌, ◌≤◌, ◌+◌, ◌-◌, ◌^◌, ◌%◌, ℕ, [], ◌∷◌, length, map, insert, remove, slice_set, slice_index_or};
-ghost use Rattle.std.specs.Prelude.{false, true, not, take, All, IfOk, OnOk, OnErr, IsOk, IsTrue, ◌↔◌};
+ghost use Rattle.std.specs.Prelude.{◌≡◌, ◌≢◌, ◌<◌, ◌≤◌, ◌+◌, ◌-◌, ◌^◌, ◌%◌, ℕ, [], ◌∷◌, length, map, insert, remove, slice_set, slice_index_or, false, true, not, take, All, IfOk, OnOk, OnErr, IsOk, IsTrue, ◌↔◌};
 ghost use Rattle.bits.specs.MarginRows.{after_margin, closed_up};
 ghost use Rattle.bits.specs.Rows.{two_words, IsRunWritten};
 ghost use Rattle.bits.specs.TurnedRows.{turned};
 ghost use Rattle.bits.specs.steps.Packing.{all_bits, IsPacked};
-ghost use Rattle.bits.specs.steps.RowWords.{words_of};
+ghost use Rattle.bits.specs.steps.StoredRows.{words_of};
 ghost use Rattle.bits.specs.steps.Summaries.{IsSummaryOf};
 
 use crate::margin_rows::MarginRows;

@@ -3,11 +3,9 @@
 ghost use Rattle.std.specs.Prelude.{◌≡◌, ◌≢◌, ℕ, ◌<◌, ◌≤◌, ◌+◌, ◌-◌, ◌*◌, ◌^◌, ◌++◌, ◌∷◌, [], OnOk, length, take, slice_index, slice_set};
 ghost use Rattle.std.specs.Vec.{vec_capacity};
 ghost use Rattle.bits.specs.declared.whole_rows.Kept.TheVariants.{Whole};
-ghost use Rattle.bits.specs.steps.Held.{words_in, Writes};
+ghost use Rattle.bits.specs.steps.Held.{words_in, Writes, Fits, Makes};
 ghost use Rattle.bits.specs.steps.Packing.{all_bits};
-ghost use Rattle.bits.specs.steps.RowMoves.{Fits, Makes};
-ghost use Rattle.bits.specs.steps.RowParts.{part_row};
-ghost use Rattle.bits.specs.steps.StoredRows.{AreStored, IsFreed, IsRowChanged, owners_after};
+ghost use Rattle.bits.specs.steps.StoredRows.{part_row, AreStored, IsFreed, IsRowChanged, owners_after};
 ghost use Rattle.bits.specs.steps.Summaries.{IsSummaryOf};
 
 use crate::row_move::{Move, make};

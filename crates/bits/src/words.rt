@@ -2,7 +2,7 @@
 
 ghost use Rattle.std.specs.Prelude.{◌≡◌, ◌≢◌, ◌++◌, ◌∷◌, [], ◌<◌, ◌≤◌, ◌+◌, ◌*◌, length, false, insert, remove, slice_set, slice_index, slice_index_or, take, ℕ, IsTrue, ◌↔◌};
 ghost use Rattle.bits.specs.steps.Packing.{word_bits, all_bits, low_bit, top_bit, AreAlikeBeside, IsPacked};
-ghost use Rattle.bits.specs.steps.RowWords.{words_of};
+ghost use Rattle.bits.specs.steps.StoredRows.{words_of};
 
 use crate::row_words::RowWords;
 

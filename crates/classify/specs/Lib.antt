@@ -1,10 +1,11 @@
-pub mod classifier
-pub mod line
-pub mod search
-pub mod steps
 pub use Rattle.fields.specs.numbers.Field
 pub use Rattle.fields.specs.numbers.Spans
-pub use Rattle.rules.specs.boxing.Boxed
+pub use Rattle.rules.specs.Boxed
 pub use Rattle.rules.specs.rule.Actions
 pub use Rattle.rules.specs.rule.Allows
 pub use Rattle.rules.specs.rule.Rules
+pub mod Classifier
+pub mod Laws
+pub mod Line
+pub mod NextMatch
+pub mod steps

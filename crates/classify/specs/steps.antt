@@ -1,11 +1,5 @@
 pub mod CommonPlaces
-pub mod Cuts
 pub mod Edits
 pub mod Fields
-pub mod Found
 pub mod Kept
 pub mod Pieces
-pub mod Runs
-pub mod Starts
-pub mod Summaries
-pub mod Whole

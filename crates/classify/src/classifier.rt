@@ -1,13 +1,12 @@
 //! The classifier: the lines of all fields, and the edits of the list of boxes.
 
-ghost use Rattle.std.specs.Prelude.{◌≡◌, ◌≢◌, ◌≤◌, ◌+◌, ◌%◌, OnOk, OnErr, IsOk, IfOk, List, [], ◌<◌, map, insert, remove};
-ghost use Rattle.std.specs.Prelude.{slice_set};
+ghost use Rattle.std.specs.Prelude.{◌≡◌, ◌≢◌, ◌≤◌, ◌+◌, ◌%◌, OnOk, OnErr, IsOk, IfOk, List, [], ◌<◌, map, insert, remove, slice_set};
 ghost use Rattle.fields.specs.numbers.Spans.{SpanSet};
 ghost use Rattle.fields.specs.numbers.Field.{index};
-ghost use Rattle.rules.specs.boxing.Boxed.{IsBoxOf};
+ghost use Rattle.rules.specs.Boxed.{IsBoxOf};
 ghost use Rattle.rules.specs.rule.Allows.{allows_each};
 ghost use Rattle.rules.specs.rule.Rules.{Rule};
-ghost use Rattle.classify.specs.search.NextMatch.{next_match};
+ghost use Rattle.classify.specs.NextMatch.{next_match};
 
 use crate::classifier::candidates::Candidates;
 use crate::line::owned::OwnedLine;
@@ -53,12 +52,12 @@ pub struct Classifier {
 
 impl Model for Classifier {
     ghost use Rattle.std.specs.Prelude.{map};
-    ghost use Rattle.classify.specs.classifier.Classifier.{ClassifiedAndRoom};
+    ghost use Rattle.classify.specs.Classifier.{ClassifiedAndRoom};
 
     ghost Value = { ClassifiedAndRoom };
 
     ghost use Rattle.classify.specs.steps.Fields.{shown_line, room_beside, IsKept};
-    ghost use Rattle.classify.specs.steps.Whole.{AreMarked, AreOthers};
+    ghost use Rattle.classify.specs.steps.Kept.{AreMarked, AreOthers};
 
     ghost view = { λ c. record {
       shown = record { len = c.len; lines = map shown_line c.lines };
@@ -69,9 +68,7 @@ impl Model for Classifier {
 }
 
 impl Classifier {
-    ghost use Rattle.classify.specs.classifier.Classifier.{IsClassifierOf, IsClassifierOfRules, EditsBoxes, EditsRules};
-    ghost use Rattle.classify.specs.classifier.OfRules.{lines_of};
-    ghost use Rattle.classify.specs.classifier.Classifier.{HasNoNewCut, line_on, IsPoint, box_matches};
+    ghost use Rattle.classify.specs.Classifier.{IsClassifierOf, IsClassifierOfRules, EditsBoxes, EditsRules, lines_of, HasNoNewCut, line_on, IsPoint, box_matches};
 
     /// The classifier of no box.
     ///

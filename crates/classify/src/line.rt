@@ -1,6 +1,6 @@
 //! Lines of cuts: where the answers of a list of boxes change, and what they are from there on.
 
-ghost use Rattle.classify.specs.line.Laws.{BoxesHaveOneLine};
+ghost use Rattle.classify.specs.Laws.{BoxesHaveOneLine};
 
 pub(crate) mod edit;
 pub(crate) mod owned;

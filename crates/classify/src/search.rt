@@ -2,9 +2,8 @@
 //! summaries leave a word.
 
 ghost use Rattle.std.specs.Prelude.{◌≡◌, ◌<◌, ◌≤◌, ◌+◌, ◌-◌, ◌*◌, ◌/◌, ◌%◌, ◌^◌, ℕ, MatchOption};
-ghost use Rattle.bits.specs.steps.First.{Nowhere, IsFirst};
-ghost use Rattle.classify.specs.steps.CommonPlaces.{AreAndsAt, AreWide, HaveAll, IsAndAt};
-ghost use Rattle.classify.specs.steps.Summaries.{SumUpAll};
+ghost use Rattle.bits.specs.steps.Summaries.{Nowhere, IsFirst};
+ghost use Rattle.classify.specs.steps.CommonPlaces.{AreAndsAt, AreWide, HaveAll, IsAndAt, SumUpAll};
 
 use bits::{TurnedWords, is_marked, next_marked};
 use std::simd::prelude::*;

@@ -1,16 +1,11 @@
 pub mod ApartLaws
 pub mod AskedLaws
-pub mod BesideLaws
 pub mod ConditionLaws
 pub mod KeptLaws
 pub mod KnownLaws
-pub mod NeedLaws
-pub mod NextLaws
 pub mod NumberLaws
 pub mod OneLineLaws
 pub mod OwnLaws
-pub mod PieceLaws
 pub mod ReadingLaws
 pub mod ServiceLaws
 pub mod TableLineLaws
-pub mod WordLaws

@@ -1,14 +1,14 @@
 -- What a rule needs stands beside its text (iptables-save(8)).
 use Rattle.std.specs.Prelude.{◌≡◌, ◌⊎◌, true, false, ℕ, List, [], ◌∷◌, ◌++◌, map, flat_map, All, Option, None, Some, option_map}
-use Rattle.std.specs.List.{filter_map}
+use Rattle.std.specs.List.{filter_map, list_any}
 use Rattle.std.specs.Option.{option_and_then}
-use Rattle.fields.specs.text.OneLine.{AreOneLine}
+use Rattle.fields.specs.text.Line.{AreOneLine}
 use Rattle.fields.specs.text.Words.{words_of}
-use Rattle.dumps.specs.Foreign.{Needed, ReadRule}
+use Rattle.dumps.specs.Foreign.{Needed, ReadRule, needs_some}
 use Rattle.dumps.specs.Options.{Known, Table}
 use Rattle.dumps.specs.Own.{HasNumbersInOneLine}
 use Rattle.dumps.specs.Reading.{Read, Filter, is_too_long, add_line, IsLineRead}
-use Rattle.dumps.specs.SectionLines.{RuleLine, rule_line}
+use Rattle.dumps.specs.SectionLines.{RuleLine, moving, other_line, rule_line}
 
 -- the chain of a line with a rule
 abbrev pub chain_in : Option RuleLine → Option (List ℕ)
@@ -59,3 +59,37 @@ pub record CameTogether (old new : Read) : Type 0 where
 -- so the k-th line `-A` of a chain in the text of a section is the k-th rule of the chain
 abbrev pub LinesComeWithRules : Type 0
 LinesComeWithRules = (lines : List (List ℕ)) (old new : Read) → AreBeside lines old new → CameTogether old new
+
+-- the words of a line put no rule last in a chain, and move none of those before it
+abbrev pub MovesNone : List ReadRule → List (List ℕ) → Type 0
+MovesNone rules words = (rule_line words ≡ None) × (moving rules (other_line words) ≡ None)
+
+-- A line of a text puts a rule last in a chain, and one was read for that; or it is no such line, and moves no rule. A line that is too
+-- long does neither: a restore refuses it.
+pub data IsStill (old new : List ReadRule) (line : List ℕ) : Type 0 where
+  Puts : (chain : List ℕ) (needs : List Needed) → chain_of line ≡ Some chain → new ≡ old ++ record { chain = chain; needs = needs } ∷ []
+      → IsStill old new line
+  Keeps : new ≡ old → (is_too_long line ≡ true) ⊎ ((words : List (List ℕ)) → words_of line ≡ Some words → MovesNone old words) → IsStill old new line
+
+-- the same of lines, one after another
+abbrev pub AreStill : List ReadRule → List ReadRule → List (List ℕ) → Type 0
+AreStill old new [] = new ≡ old
+AreStill old new (line ∷ lines) = (mid : List ReadRule) × IsStill old mid line × AreStill mid new lines
+
+-- a section `filter` is open, and none of its lines was read
+pub record IsOpened (read : Read) : Type 0 where
+  pub section : read.section ≡ Filter
+  pub rules : read.rules ≡ []
+  pub moved : read.moved ≡ None
+
+-- lines of a section are read, one after another, and none of them ends it
+abbrev pub AreRead : Table → List (List ℕ) → Read → Read → Type 0
+AreRead table [] old new = new ≡ old
+AreRead table (line ∷ lines) old new = (mid : Read) × IsLineRead table line old mid × (mid.section ≡ Filter) × AreRead table lines mid new
+
+-- where a rule of a section needs something, no line of the section's text moves rules
+abbrev pub NeededRulesStandStill : Type 0
+NeededRulesStandStill =
+    (table : Table) (lines : List (List ℕ)) (old new : Read) → GivesOneLine table → IsOpened old → AreRead table lines old new
+    → list_any needs_some new.rules ≡ true
+    → (texts : List (List ℕ)) × (new.text ≡ old.text ++ flat_map (λ (line : List ℕ). line ++ 10 ∷ []) texts) × AreStill [] new.rules texts

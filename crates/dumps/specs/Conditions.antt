@@ -1,10 +1,8 @@
 -- What a rule asks beyond what the program reads (iptables-extensions(8)).
-use Rattle.std.specs.Prelude.{◌≡◌, ◌≢◌, All, Contains, ℕ, Bool, true, false, not, ◌&&◌, ◌||◌, List, [], ◌∷◌, ◌++◌, length, flat_map, filter, if◌then◌else◌, codes, Option, Some, None}
-use Rattle.std.specs.Prelude.{◌==◌}
+use Rattle.std.specs.Prelude.{◌≡◌, ◌≢◌, All, Contains, ℕ, Bool, true, false, not, ◌&&◌, ◌||◌, List, [], ◌∷◌, ◌++◌, length, flat_map, filter, if◌then◌else◌, codes, Option, Some, None, ◌==◌}
 use Rattle.std.specs.List.{list_any}
 use Rattle.dumps.specs.Options.{Row, Extension, Table, extension_of, is_role, is_match}
-use Rattle.dumps.specs.Parts.{Part, spelled_words, value_of}
-use Rattle.dumps.specs.Apart.{IsTakenApart}
+use Rattle.dumps.specs.Parts.{Part, spelled_words, value_of, IsTakenApart}
 use Rattle.dumps.specs.Own.{is_read, is_of, begins, up_to_next}
 use Rattle.dumps.specs.declared.options.row.Role.TheVariants as role
 use Rattle.dumps.specs.declared.options.row.Kind.{Kind}

@@ -1,16 +1,14 @@
 -- Which parts of a line the program reads, and the words that it is given (iptables-save(8)).
-use Rattle.std.specs.Prelude.{◌≡◌, All, ℕ, ◌==◌, Bool, true, false, not, ◌&&◌, ◌||◌, List, [], ◌∷◌, ◌++◌, length, nat_lt, map, flat_map, if◌then◌else◌}
-use Rattle.std.specs.Prelude.{Option, Some, None, is_some}
+use Rattle.std.specs.Prelude.{◌≡◌, All, ℕ, ◌==◌, Bool, true, false, not, ◌&&◌, ◌||◌, List, [], ◌∷◌, ◌++◌, length, nat_lt, map, flat_map, if◌then◌else◌, Option, Some, None, is_some}
 use Rattle.std.specs.List.{list_any, list_all}
 use Rattle.std.specs.Char.{is_ascii_alphabetic}
 use Rattle.std.specs.Str.{bytes_eq}
-use Rattle.fields.specs.text.OneLine.{IsOneLine, AreOneLine}
+use Rattle.fields.specs.text.Line.{IsOneLine, AreOneLine}
 use Rattle.fields.specs.text.Words.{is_bare, words_of}
 use Rattle.fields.specs.values.Icmp.{icmp_of}
 use Rattle.fields.specs.values.Protocol.{protocol_of}
 use Rattle.dumps.specs.Options.{Extension, Table, extension_of, number_of, is_role}
-use Rattle.dumps.specs.Apart.{IsTakenApart}
-use Rattle.dumps.specs.Parts.{Part, spelled_words, value_of}
+use Rattle.dumps.specs.Parts.{IsTakenApart, Part, spelled_words, value_of}
 use Rattle.dumps.specs.declared.options.row.Role.{Role}
 use Rattle.dumps.specs.declared.options.row.Role.TheVariants as role
 use Rattle.dumps.specs.declared.options.row.Kind.{Kind}

@@ -5,9 +5,8 @@ use Rattle.std.specs.Str.{bytes_eq}
 use Rattle.fields.specs.text.Words.{words_of}
 use Rattle.std.specs.Option.{option_or}
 use Rattle.dumps.specs.Options.{Table, Extension, extension_of}
-use Rattle.dumps.specs.Parts.{Part}
+use Rattle.dumps.specs.Parts.{Part, IsTakenApart, IsRefused}
 use Rattle.dumps.specs.Parts as parts
-use Rattle.dumps.specs.Apart.{IsTakenApart, IsRefused}
 use Rattle.dumps.specs.Own.{own_words, spelled, line_of}
 use Rattle.dumps.specs.Conditions.{conditions}
 use Rattle.dumps.specs.Foreign.{Needed, ReadRule, needed, needs_some, known_words, unknown_needs, set_by, with_names}

@@ -3,7 +3,7 @@ use Rattle.std.specs.Prelude.{ℕ, List, ◌++◌, All, codes}
 use Rattle.std.specs.List.{filter_map}
 use Rattle.std.specs.Str.Lines.{lines}
 use Rattle.fields.specs.text.Cut.{cut_at}
-use Rattle.fields.specs.text.OneLine.{IsOneLine}
+use Rattle.fields.specs.text.Line.{IsOneLine}
 
 -- the names and numbers of a text: those of its lines in which a blank (32) stands between them
 abbrev pub names_of : List ℕ → List (List ℕ × List ℕ)

@@ -1,11 +1,17 @@
--- How the code's values stand for those of the definitions.
-use Rattle.std.specs.Prelude.{ℕ, Bool, ◌&&◌, List, map, Option, Some, None, Result}
+-- How the code's values stand for those of the definitions: rows, parts, conditions and their numbers, lines of a section, and the reading
+-- of a dump.
+use Rattle.std.specs.Prelude.{ℕ, Bool, ◌&&◌, List, map, Option, Some, None, Result, option_map, ◌≡◌, false, length, filter, MatchOption}
 use Rattle.std.specs.Borrow.{Bor}
+use Rattle.std.specs.Global.{Vec}
+use Rattle.std.specs.List.{flat_map}
+use Rattle.std.specs.Option.{option_cmp, unwrap_or}
+use Rattle.std.specs.Cmp.Lexicographic.{slice_cmp}
+use Rattle.std.specs.declared.cmp.Ordering.{Ordering}
+use Rattle.std.specs.Ordering.{nat_cmp, ordering_then}
+use Rattle.std.specs.BTreeMap.{BTreeMap, get}
 use Rattle.fields.specs.Refusals.{GivesFor}
 use Rattle.fields.specs.text.WordSlice.{words_in}
 use Rattle.fields.specs.declared.text.word_slice.WordSlice.{WordSlice}
-use Rattle.dumps.specs.Options as options
-use Rattle.dumps.specs.Parts as parts
 use Rattle.dumps.specs.declared.options.row.OptionRow.{OptionRow}
 use Rattle.dumps.specs.declared.options.row.ExtensionRow.{ExtensionRow}
 use Rattle.dumps.specs.declared.options.table.NameRow.{NameRow}
@@ -13,14 +19,35 @@ use Rattle.dumps.specs.declared.options.table.KnownCondition.{KnownCondition}
 use Rattle.dumps.specs.declared.options.table.OptionTable.{OptionTable}
 use Rattle.dumps.specs.declared.apart.part.Part.{Part}
 use Rattle.dumps.specs.declared.apart.Apart.{Apart}
-use Rattle.dumps.specs.Conditions as conditions
 use Rattle.dumps.specs.declared.apart.condition.Condition.{Condition}
 use Rattle.dumps.specs.declared.apart.condition.Test.{Test}
-use Rattle.dumps.specs.declared.apart.condition.Test.TheVariants as test
 use Rattle.dumps.specs.declared.apart.taking.Beginning.{Beginning}
-use Rattle.dumps.specs.declared.apart.taking.Beginning.TheVariants as beginning
 use Rattle.dumps.specs.declared.apart.fault.ApartFault.{ApartFault}
+use Rattle.dumps.specs.declared.reading.line.RuleLine.{RuleLine}
+use Rattle.dumps.specs.declared.reading.line.OtherLine.{OtherLine}
+use Rattle.dumps.specs.declared.conditions.ForeignNeed.{ForeignNeed}
+use Rattle.dumps.specs.Foreign.{Needed, ReadRule, is_in, rules_in, sets_in}
+use Rattle.dumps.specs.Numbers.{Place, Asked, Numbers, Identity, has, identity_at, told, added, asked_by_rule, count_of, AreNumbered, AreApart}
+use Rattle.dumps.specs.declared.reading.foreign.NeededText.{NeededText}
+use Rattle.dumps.specs.declared.conditions.ConditionPlace.{ConditionPlace}
+use Rattle.dumps.specs.declared.conditions.Key.{Key}
+use Rattle.dumps.specs.declared.conditions.Kept.{Kept}
+use Rattle.dumps.specs.declared.conditions.KeptPlace.{KeptPlace}
+use Rattle.dumps.specs.Reading.{Read, Refusal}
+use Rattle.dumps.specs.declared.reading.dump.Reading.{Reading}
+use Rattle.dumps.specs.declared.reading.fault.LineWord.{LineWord}
+use Rattle.dumps.specs.declared.reading.fault.DumpFault.{DumpFault}
+use Rattle.dumps.specs.Options as options
+use Rattle.dumps.specs.Parts as parts
+use Rattle.dumps.specs.Conditions as conditions
+use Rattle.dumps.specs.declared.apart.condition.Test.TheVariants as test
+use Rattle.dumps.specs.declared.apart.taking.Beginning.TheVariants as beginning
 use Rattle.dumps.specs.declared.apart.fault.ApartFault.TheVariants as fault
+use Rattle.dumps.specs.SectionLines as lines
+use Rattle.dumps.specs.declared.reading.line.OtherLine.TheVariants as other
+use Rattle.dumps.specs.declared.reading.fault.DumpFault.TheVariants as dump_fault
+
+-- ---- How the code's values stand for those of the definitions.
 
 -- texts that are lent
 abbrev pub texts_in : List (Bor (List ℕ)) → List (List ℕ)
@@ -119,3 +146,133 @@ passes test.Holds part = conditions.holds part
 abbrev pub begun : Beginning → options.Table → parts.Part → Option (List ℕ)
 begun beginning.Name table part = parts.begun_by table part
 begun beginning.Protocol table part = parts.implied_by table part
+
+-- ---- How the code's lines of a section stand for those of the definitions.
+
+-- a line with a rule
+abbrev pub rule_line_in : RuleLine → lines.RuleLine
+rule_line_in line =
+    record {
+      counters = option_map (λ counters. counters.now) line.counters;
+      command = line.command.now;
+      chain = line.chain.now;
+      words = words_in line.words;
+    }
+
+-- a line without one
+abbrev pub other_line_in : OtherLine → lines.OtherLine
+other_line_in other.Quiet = lines.Quiet
+other_line_in (other.NewChain name) = lines.NewChain name.now
+other_line_in (other.ChainLine name) = lines.ChainLine name.now
+other_line_in (other.Renames name command) = lines.Renames name.now command.now
+other_line_in (other.Moves command) = lines.Moves command.now
+
+-- ---- How needs by the numbers of their conditions are seen.
+
+-- of each need whether the rule needs that the condition doesn't hold
+abbrev pub inversions_in : List ForeignNeed → List Bool
+inversions_in needs = map (λ (need : ForeignNeed). need.inverted) needs
+
+-- the same of each rule
+abbrev pub all_inversions_in : List (Vec ForeignNeed) → List (List Bool)
+all_inversions_in rules = map (λ (rule : Vec ForeignNeed). inversions_in rule.items) rules
+
+-- ---- How the code's conditions stand for those of the definitions.
+
+-- the rule at which a condition is asked
+abbrev pub at_in : ConditionPlace → List ℕ × ℕ
+at_in place = (place.chain.items, place.rule)
+
+-- a place, with a count
+abbrev pub place_in : KeptPlace → Place
+place_in place = record { chain = place.at.chain.items; rule = place.at.rule; count = place.count }
+
+-- a condition as it was asked first
+abbrev pub kept_in : Kept → Asked
+kept_in kept = record { name = kept.name.items; text = kept.text.items; place = option_map place_in kept.place }
+
+-- all of them
+abbrev pub all_in : List Kept → List Asked
+all_in all = map kept_in all
+
+-- the condition of a need
+abbrev pub asked_with : NeededText → Option KeptPlace → Asked
+asked_with need place = record { name = need.name.items; text = need.text.items; place = option_map place_in place }
+
+-- the place that a key has
+abbrev pub key_place_in : Option (Vec ℕ × ℕ) → Option (List ℕ × ℕ)
+key_place_in place = option_map (λ (p : Vec ℕ × ℕ). (p.0.items, p.1)) place
+
+-- what a key tells
+abbrev pub identity_in : Key → Identity
+identity_in key = record { text = key.text.items; place = key_place_in key.place }
+
+-- the order of texts
+abbrev pub text_cmp : Vec ℕ → Vec ℕ → Ordering
+text_cmp a b = slice_cmp nat_cmp a.items b.items
+
+-- that of places
+abbrev pub place_cmp : Vec ℕ × ℕ → Vec ℕ × ℕ → Ordering
+place_cmp p q = ordering_then (text_cmp p.0 q.0) (nat_cmp p.1 q.1)
+
+-- that of keys
+abbrev pub key_cmp : Key → Key → Ordering
+key_cmp a b = ordering_then (text_cmp a.text b.text) (option_cmp place_cmp a.place b.place)
+
+-- the map has the number of each condition, and no other; and no condition has two
+pub record IsIndex (numbers : BTreeMap Key ℕ) (all : List Asked) : Type 0 where
+  pub found : (key : Key) → MatchOption (get key_cmp numbers key) (has all (identity_in key) ≡ false) (λ n. identity_at all n ≡ Some (identity_in key))
+  pub apart : AreApart all
+
+-- the numbers of the conditions of needs
+abbrev pub numbers_of : List ForeignNeed → List ℕ
+numbers_of needs = map (λ (need : ForeignNeed). need.condition) needs
+
+-- the same of each rule
+abbrev pub numbers_in : List (Vec ForeignNeed) → List (List ℕ)
+numbers_in rules = map (λ (rule : Vec ForeignNeed). numbers_of rule.items) rules
+
+-- the count of a text in a map of counts
+abbrev pub count_in : BTreeMap (Vec ℕ) ℕ → Vec ℕ → ℕ
+count_in counts text = unwrap_or (get text_cmp counts text) 0
+
+-- a map counts those of some needs that are of a place, by their texts
+abbrev pub AreCounts : List (List ℕ) → List Needed → BTreeMap (Vec ℕ) ℕ → Type 0
+AreCounts sets before counts = (text : Vec ℕ) → count_in counts text ≡ count_of sets text.items before
+
+-- the first needs of a rule have numbers
+pub record AreNeedsNumbered (chain : List ℕ) (rule : ℕ) (before needs : List Needed) (old new : Numbers) (numbers : List ℕ) : Type 0 where
+  pub after : new ≡ added old (asked_by_rule old.sets chain rule before needs)
+  pub each : map (identity_at new.all) numbers ≡ map told (asked_by_rule old.sets chain rule before needs)
+
+-- the needs of the rules that are in a chain
+abbrev pub needs_within : List ℕ → List ReadRule → List Needed
+needs_within chain rules = flat_map (λ (rule : ReadRule). rule.needs) (filter (is_in chain) rules)
+
+-- the needs of the first rules have numbers, and are counted
+pub record AreNumberedSoFar (chain : List ℕ) (done : List ReadRule) (old new : Numbers) (rules : List (Vec ForeignNeed)) (counts : BTreeMap (Vec ℕ) ℕ) : Type 0 where
+  pub numbered : AreNumbered chain done old new (numbers_in rules)
+  pub counted : AreCounts old.sets (needs_within chain done) counts
+  pub lengths : length rules ≡ length (filter (is_in chain) done)
+
+-- ---- How the code's reading of a dump stands for that of the definitions.
+
+-- a word, by its bytes
+abbrev pub word_in : LineWord → List ℕ
+word_in word = word.bytes.items
+
+-- what was read, by the code's value
+abbrev pub read_in : Reading → Read
+read_in reading =
+    record {
+      section = reading.section;
+      text = reading.text.items;
+      rules = rules_in reading.foreign;
+      sets = sets_in reading.foreign;
+      moved = option_map word_in reading.moved;
+    }
+
+-- why a line was refused, and for which word; that memory ran out is no refusal
+abbrev pub refused_in : DumpFault → Option (Refusal × List ℕ)
+refused_in dump_fault.NoMemory = None
+refused_in (dump_fault.Refused refusal word) = Some (refusal, word_in word)

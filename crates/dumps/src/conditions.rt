@@ -5,7 +5,7 @@ ghost use Rattle.std.specs.Str.{bytes_eq};
 ghost use Rattle.std.specs.Global.{Vec};
 ghost use Rattle.dumps.specs.Foreign.{needed_in, kept_names, sets_in, is_named};
 ghost use Rattle.dumps.specs.Numbers.{lasts_at_place, identity_of, place_identity};
-ghost use Rattle.dumps.specs.NumberViews.{place_in, kept_in, all_in, identity_in, key_place_in, asked_with, count_in};
+ghost use Rattle.dumps.specs.Views.{place_in, kept_in, all_in, identity_in, key_place_in, asked_with, count_in};
 
 use crate::options::row::Lasting;
 use crate::reading::foreign::{Foreign, ForeignRule, NeededText, is_named};
@@ -76,7 +76,7 @@ pub struct Conditions {
 impl Model for Conditions {
     ghost use Rattle.dumps.specs.Foreign.{kept_names};
     ghost use Rattle.dumps.specs.Numbers.{Numbers};
-    ghost use Rattle.dumps.specs.NumberViews.{all_in, IsIndex};
+    ghost use Rattle.dumps.specs.Views.{all_in, IsIndex};
 
     ghost Value = { Numbers };
 
@@ -182,9 +182,8 @@ impl Conditions {
     ghost use Rattle.std.specs.Prelude.{◌≡◌, ◌==◌, ◌++◌, ◌∷◌, [], false, List, length, map, IfOk, OnOk, MatchOption, Some, option_map};
     ghost use Rattle.std.specs.List.{slice_get, flat_map};
     ghost use Rattle.dumps.specs.Foreign.{Needed, needed_in, needs_in, ReadRule, rule_in, rules_in, sets_in, inversions, inversions_of};
-    ghost use Rattle.dumps.specs.NeedViews.{inversions_in, all_inversions_in};
+    ghost use Rattle.dumps.specs.Views.{inversions_in, all_inversions_in, at_in, place_in, kept_in, identity_in, asked_with, numbers_of, numbers_in, AreCounts, AreNeedsNumbered, AreNumberedSoFar};
     ghost use Rattle.dumps.specs.Numbers.{Numbers, has, identity_of, identity_at, told, added, is_of_place, place_of, text_of, name_of, place_at, rule_of, some_set, AreNumbered, AreApart, NumbersTellConditions};
-    ghost use Rattle.dumps.specs.NumberViews.{at_in, place_in, kept_in, identity_in, asked_with, numbers_of, numbers_in, AreCounts, AreNeedsNumbered, AreNumberedSoFar};
 
     /// No condition so far, of these dumps.
     ///

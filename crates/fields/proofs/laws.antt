@@ -1,7 +1,6 @@
 pub mod ListLaws
-pub mod PlaceLaws
-pub mod devices
+pub mod PacketLaws
+pub mod RestsLaws
 pub mod numbers
-pub mod packet
 pub mod text
 pub mod values

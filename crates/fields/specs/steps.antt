@@ -1,9 +1,4 @@
 pub mod Cutting
 pub mod GivenNumbers
-pub mod IcmpTable
-pub mod LineSteps
-pub mod NamedFlags
-pub mod Octets
-pub mod PacketStateTable
-pub mod PortItems
-pub mod ProtocolTable
+pub mod Tables
+pub mod ValueParts

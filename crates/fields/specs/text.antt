@@ -1,9 +1,7 @@
 pub mod Cut
 pub mod Line
 pub mod Number
-pub mod OneLine
 pub mod Printed
 pub mod Tap
-pub mod WordEnds
 pub mod WordSlice
 pub mod Words

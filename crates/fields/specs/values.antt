@@ -1,5 +1,4 @@
 pub mod ConnectionState
-pub mod FlagTest
 pub mod FreeText
 pub mod Icmp
 pub mod Interface
@@ -7,7 +6,6 @@ pub mod IpRange
 pub mod LogLevel
 pub mod Name
 pub mod NameList
-pub mod PacketIcmp
 pub mod PortList
 pub mod PortRange
 pub mod Prefix

@@ -3,7 +3,7 @@ ghost use Rattle.std.specs.Prelude.{◌≡◌, ◌<◌, ◌≤◌, [], map, leng
 ghost use Rattle.std.specs.List.{list_any};
 ghost use Rattle.fields.specs.declared.numbers.field.Field.{Field};
 ghost use Rattle.fields.specs.numbers.Field.{number_on, top};
-ghost use Rattle.fields.specs.packet.Packet.{leftmost_fault};
+ghost use Rattle.fields.specs.Packet.{leftmost_fault};
 ghost use Rattle.fields.specs.steps.GivenNumbers.{AllFit, value_in, shape_in, strays_in, lacks_in, checked_in};
 
 mod given;
@@ -44,7 +44,7 @@ pub struct Packet {
 }
 
 impl Model for Packet {
-    ghost use Rattle.fields.specs.packet.Packet.{PacketView, IsPacket};
+    ghost use Rattle.fields.specs.Packet.{PacketView, IsPacket};
 
     ghost Value = { PacketView };
 
@@ -118,7 +118,7 @@ fn values_of(given: &[Option<u128>; FIELDS]) -> [u128; FIELDS]
 }
 
 impl Packet {
-    ghost use Rattle.fields.specs.packet.Packet.{IsPacket, checked, packet_of, point};
+    ghost use Rattle.fields.specs.Packet.{IsPacket, checked, packet_of, point};
 
     // The packet that the numbers of a line make at a hook.
     fn of_given(hook: Hook, given: &[Option<u128>; FIELDS]) -> Result<Packet, PacketFault>

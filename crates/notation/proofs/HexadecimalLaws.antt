@@ -6,8 +6,8 @@ use Rattle.std.proofs.lemmas.Bool.{and_from, lt-ltb}
 use Rattle.std.proofs.Math.Nat.{div-div-eq-div-mul, div-le_self, pow-suc}
 use Rattle.fields.specs.Sequence.{◌>>=◌}
 use Rattle.fields.specs.values.NameList.{is_just}
-use Rattle.fields.proofs.laws.numbers.BelowLaws.{all_below, all_below-at, is_just-same}
-use Rattle.notation.specs.Plain.{digit_byte, digits_of, hexadecimal_text}
+use Rattle.fields.proofs.laws.values.NameListLaws.{all_below, all_below-at, is_just-same}
+use Rattle.notation.specs.IntervalText.{digit_byte, digits_of, hexadecimal_text}
 use Rattle.notation.specs.Range.{digit_of, digits_from, hexadecimal_of}
 use Rattle.notation.proofs.ValueTextLaws.{length-bytes}
 

@@ -1,7 +1,5 @@
 pub mod HexadecimalLaws
-pub mod NameLaws
+pub mod IntervalTextLaws
 pub mod PartLaws
-pub mod PlainLaws
 pub mod SetTextLaws
-pub mod UsualLaws
 pub mod ValueTextLaws

@@ -6,7 +6,7 @@ use Rattle.fields.specs.declared.numbers.field.Field.{Field}
 use Rattle.fields.specs.declared.numbers.spans.Interval.{Interval}
 use Rattle.fields.specs.numbers.Field.{top}
 use Rattle.fields.specs.numbers.Spans.{AreSpansFrom}
-use Rattle.notation.specs.Plain.{IsPart, has_ranges}
+use Rattle.notation.specs.IntervalText.{IsPart, has_ranges}
 
 -- each is within the top
 are-within : (most low : ℕ) (spans : List Interval) → AreSpansFrom most low spans → All (λ s. (s.first ≤ s.last) × (s.last ≤ most)) spans

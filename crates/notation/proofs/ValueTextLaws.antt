@@ -1,42 +1,86 @@
--- The text of a number on a field is read as the number, and stands without quotes.
-use Rattle.std.proofs.Common.{◌≡◌, ◌==◌, ℕ, zero, suc, ◌+◌, ◌-◌, ◌*◌, ◌/◌, ◌%◌, ◌^◌, ◌<◌, ◌≤◌, Bool, true, false, cond, not, ◌&&◌, leb, List, [], ◌∷◌, ◌++◌, length, take, Option, Some, refl, ap, sym, subst, ◌∙◌, arith, append-nil}
-use Rattle.std.specs.Prelude.{decimal, filter, nat_eq, nat_lt, replicate, option_map}
+-- The text of a number on a field is read as the number, stands without quotes, and is joined name by name.
+use Rattle.std.proofs.Common.{◌≡◌, ◌==◌, ℕ, ◌+◌, ◌<◌, true, false, cond, List, [], ◌∷◌, ◌++◌, map, length, take, get_or, refl, ap, sym, ◌∙◌, append_assoc, append-nil, zero, suc, ◌-◌, ◌*◌, ◌/◌, ◌%◌, ◌^◌, ◌≤◌, Bool, not, ◌&&◌, leb, Option, Some, subst, arith}
+use Rattle.std.specs.Prelude.{filter, decimal, nat_eq, nat_lt, replicate, option_map}
+use Rattle.std.specs.Borrow.{Bor}
+use Rattle.std.specs.Int.RustNames.{bit_and}
+use Rattle.std.specs.List.{join_with_byte, list_all, starts_with}
+use Rattle.std.proofs.lemmas.List.{take_more, map-append, take_all}
+use Rattle.std.proofs.lemmas.List.Elements.{filter-append}
 use Rattle.std.specs.Int.{bytes_high_first, w128, to_be_bytes}
-use Rattle.std.specs.List.{list_all, starts_with}
 use Rattle.std.specs.Option.{option_or}
 use Rattle.std.specs.Str.{all_ascii_digits, bytes_eq}
 use Rattle.std.proofs.lemmas.Bool.{and_from, and_parts, eqb-true, le-leb, ltb-true}
 use Rattle.std.proofs.lemmas.Fmt.{digits_decimal}
-use Rattle.std.proofs.lemmas.List.{take_all}
-use Rattle.std.proofs.lemmas.List.Elements.{filter-append}
 use Rattle.std.proofs.Math.Nat.{mod-eq_of_lt}
 use Rattle.std.proofs.lemmas.Slice.Eq.{bytes_eq-Decides}
+use Rattle.fields.specs.values.NameList.{names_in, is_just, set_listed, names_listed}
+use Rattle.fields.proofs.laws.text.PutLaws.{comma_after}
 use Rattle.fields.specs.Sequence.{◌>>=◌}
 use Rattle.fields.specs.declared.numbers.field.Field.{Field}
-use Rattle.fields.specs.declared.numbers.field.Field.TheVariants as field
-use Rattle.fields.specs.packet.Packet.{number_of_text}
+use Rattle.fields.specs.Packet.{number_of_text}
 use Rattle.fields.specs.text.Cut.{cut_at}
 use Rattle.fields.specs.text.Number.{number_to}
 use Rattle.fields.specs.text.Printed.{IsBareWord}
 use Rattle.fields.specs.text.Words.{is_bare}
 use Rattle.fields.specs.values.ConnectionState.{packet_state_of}
 use Rattle.fields.specs.values.Interface.{filled, bytes_value, interface_of, interface_value, is_interface_byte}
-use Rattle.fields.specs.values.NameList.{is_just, set_listed, names_listed}
-use Rattle.fields.specs.values.PacketIcmp.{packet_icmp_of}
+use Rattle.fields.specs.values.Icmp.{packet_icmp_of}
 use Rattle.fields.specs.values.Prefix.{address_text}
 use Rattle.fields.specs.values.Protocol.{protocols, protocol_number, one_protocol_of}
 use Rattle.fields.specs.values.TcpFlags.{tcp_flags_of, tcp_flags_text}
 use Rattle.fields.proofs.laws.ListLaws.{find-none, all-weaker}
-use Rattle.fields.proofs.laws.numbers.BelowLaws.{all_below, all_below-at, is_just-same}
+use Rattle.fields.proofs.laws.values.NameListLaws.{all_below, all_below-at, is_just-same}
 use Rattle.fields.proofs.laws.text.CutLaws.{cut_at-at}
-use Rattle.fields.proofs.laws.text.DecimalLaws.{decimal-differs}
-use Rattle.fields.proofs.laws.text.NumberLaws.{numeral, number_to-decimal}
+use Rattle.fields.proofs.laws.text.NumberLaws.{decimal-differs, numeral, number_to-decimal}
 use Rattle.fields.proofs.laws.values.BareLaws.{decimal-bare, interface_is_bare, is_bare_word, joined, some-bytes}
 use Rattle.fields.proofs.laws.values.InterfaceLaws.{bound, bound-is, bound-fits, filled-bytes, filled-filled, interface_of-form, interface-byte, is_byte, length-filled, within}
 use Rattle.fields.proofs.laws.values.PrefixLaws.{address_of-address_text}
 use Rattle.fields.proofs.laws.values.ProtocolLaws.{names-are-words}
 use Rattle.fields.proofs.laws.values.TtlLaws.{reads_back as ttl_reads_back}
+use Rattle.fields.specs.declared.numbers.field.Field.TheVariants as field
+use Rattle.notation.specs.Rows.{rows_of}
 use Rattle.notation.specs.ValueText.{HasName, HasText, IsValueText, icmp_text, interface_name, is_some_byte, state_name, value_text}
+
+-- ---- One name more of a list of names.
+
+-- its text
+join-last : (xs : List (List ℕ)) (y : List ℕ) → join_with_byte 44 (xs ++ y ∷ []) ≡ join_with_byte 44 xs ++ (comma_after xs ++ y)
+join-last [] y = refl
+join-last (x ∷ []) y = refl
+join-last (x ∷ x' ∷ xs) y = ap (λ l. x ++ 44 ∷ l) (join-last (x' ∷ xs) y) ∙ sym (append_assoc x (44 ∷ join_with_byte 44 (x' ∷ xs)) (44 ∷ y))
+
+comma-last : (xs : List (List ℕ)) (y : List ℕ) → comma_after (xs ++ y ∷ []) ≡ 44 ∷ []
+comma-last [] y = refl
+comma-last (x ∷ xs) y = refl
+
+-- of a table of flags the next row, with a name that the set has or without
+module _ (set : ℕ) (rows : List (Bor (List ℕ) × ℕ)) (i : ℕ) (d : Bor (List ℕ) × ℕ) (within : i < length rows) where
+  abbrev row : Bor (List ℕ) × ℕ
+  row = get_or rows i d
+
+  abbrev pub names_to : ℕ → List (List ℕ)
+  names_to n = names_in (rows_of (take n rows)) set
+
+  names-more : names_to (i + 1) ≡ names_to i ++ map (λ (r : List ℕ × ℕ). r.0) (cond (bit_and set row.1 == row.1) ((row.0.now, row.1) ∷ []) [])
+  names-more =
+      ap (λ l. names_in (rows_of l) set) (take_more rows i d within)
+      ∙ ap (λ l. names_in l set) (map-append (λ (r : Bor (List ℕ) × ℕ). (r.0.now, r.1)) (take i rows) (row ∷ []))
+      ∙ ap (map (λ r. r.0)) (filter-append (λ (r : List ℕ × ℕ). bit_and set r.1 == r.1) (rows_of (take i rows)) ((row.0.now, row.1) ∷ []))
+      ∙ map-append (λ (r : List ℕ × ℕ). r.0) (filter (λ r. bit_and set r.1 == r.1) (rows_of (take i rows))) (filter (λ r. bit_and set r.1 == r.1) ((row.0.now, row.1) ∷ []))
+
+  with_name : (bit_and set row.1 == row.1) ≡ true → names_to (i + 1) ≡ names_to i ++ row.0.now ∷ []
+  with_name has = names-more ∙ ap (λ b. names_to i ++ map (λ (r : List ℕ × ℕ). r.0) (cond b ((row.0.now, row.1) ∷ []) [])) has
+
+  pub names-no : (bit_and set row.1 == row.1) ≡ false → names_to (i + 1) ≡ names_to i
+  names-no lacks = names-more ∙ ap (λ b. names_to i ++ map (λ (r : List ℕ × ℕ). r.0) (cond b ((row.0.now, row.1) ∷ []) [])) lacks ∙ append-nil (names_to i)
+
+  pub names-yes : (bit_and set row.1 == row.1) ≡ true → join_with_byte 44 (names_to (i + 1)) ≡ join_with_byte 44 (names_to i) ++ (comma_after (names_to i) ++ row.0.now)
+  names-yes has = ap (join_with_byte 44) (with_name has) ∙ join-last (names_to i) row.0.now
+
+  pub comma-yes : (bit_and set row.1 == row.1) ≡ true → comma_after (names_to (i + 1)) ≡ 44 ∷ []
+  comma-yes has = ap comma_after (with_name has) ∙ comma-last (names_to i) row.0.now
+
+-- ---- The text of a number on a field is read as the number, and stands without quotes.
 
 -- a text of digits is no name of a protocol
 no-digits : (text : List ℕ) → all_ascii_digits text ≡ true → (name : List ℕ) → not (all_ascii_digits name) ≡ true → not (bytes_eq name text) ≡ true

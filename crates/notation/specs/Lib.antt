@@ -1,7 +1,6 @@
-pub mod Plain
+pub mod IntervalText
 pub mod Range
 pub mod Rows
 pub mod SetText
-pub mod Usual
 pub mod ValueText
 pub mod steps

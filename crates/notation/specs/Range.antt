@@ -4,13 +4,12 @@ use Rattle.std.specs.Prelude.{ℕ, ◌+◌, ◌-◌, ◌*◌, ◌==◌, nat_lt, 
 use Rattle.std.specs.Str.{bytes_eq}
 use Rattle.fields.specs.Sequence.{◌>>=◌}
 use Rattle.fields.specs.declared.numbers.field.Field.{Field}
-use Rattle.fields.specs.declared.numbers.field.Field.TheVariants.{Source, Destination, InIface, OutIface, Protocol, Fragment, SourcePort}
-use Rattle.fields.specs.declared.numbers.field.Field.TheVariants.{DestinationPort, TcpFlags, IcmpType, ConnectionState, TimeToLive}
+use Rattle.fields.specs.declared.numbers.field.Field.TheVariants.{Source, Destination, InIface, OutIface, Protocol, Fragment, SourcePort, DestinationPort, TcpFlags, IcmpType, ConnectionState, TimeToLive}
 use Rattle.fields.specs.text.Cut.{cut_at}
 use Rattle.fields.specs.text.Number.{number_to}
 use Rattle.fields.specs.values.ConnectionState.{packet_state_of}
 use Rattle.fields.specs.values.Interface.{interface_of, interface_interval}
-use Rattle.fields.specs.values.PacketIcmp.{packet_icmp_of}
+use Rattle.fields.specs.values.Icmp.{packet_icmp_of}
 use Rattle.fields.specs.values.PortRange.{port_range_of}
 use Rattle.fields.specs.values.Prefix.{Network, block_size, address_of, prefix_of}
 use Rattle.fields.specs.values.Protocol.{one_protocol_of}

@@ -1,14 +1,12 @@
 -- The text of a set of numbers on a field.
-use Rattle.std.specs.Prelude.{◌≡◌, ◌≢◌, ℕ, zero, suc, ◌+◌, ◌-◌, ◌<◌, ◌≤◌, ◌==◌, Bool, true, not, ◌&&◌, IsTrue, List, [], ◌∷◌, ◌++◌, Some}
-use Rattle.std.specs.Prelude.{codes, flat_map, length, if◌then◌else◌}
+use Rattle.std.specs.Prelude.{◌≡◌, ◌≢◌, ℕ, zero, suc, ◌+◌, ◌-◌, ◌<◌, ◌≤◌, ◌==◌, Bool, true, not, ◌&&◌, IsTrue, List, [], ◌∷◌, ◌++◌, Some, codes, flat_map, length, if◌then◌else◌}
 use Rattle.std.specs.List.{list_all}
 use Rattle.std.specs.Str.{bytes_eq}
 use Rattle.fields.specs.declared.numbers.field.Field.{Field}
 use Rattle.fields.specs.declared.numbers.spans.Interval.{Interval}
 use Rattle.fields.specs.numbers.Spans.{SpanSet, has, AreSpansFrom}
-use Rattle.notation.specs.Plain.{has_ranges, plain_text}
+use Rattle.notation.specs.IntervalText.{has_ranges, plain_text, IsUsual}
 use Rattle.notation.specs.Range.{range_in}
-use Rattle.notation.specs.Usual.{IsUsual}
 
 -- without a blank (32), and not `all`
 abbrev pub is_plain : List ℕ → Bool

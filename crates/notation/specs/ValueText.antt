@@ -2,10 +2,9 @@
 use Rattle.std.specs.Prelude.{◌≡◌, ℕ, ◌/◌, ◌%◌, ◌≤◌, ◌==◌, Bool, not, List, [], ◌∷◌, ◌++◌, map, filter, slice_index_or, Some, decimal}
 use Rattle.std.specs.Int.{w128, to_be_bytes}
 use Rattle.fields.specs.declared.numbers.field.Field.{Field}
-use Rattle.fields.specs.declared.numbers.field.Field.TheVariants.{Source, Destination, InIface, OutIface, Protocol, Fragment, SourcePort}
-use Rattle.fields.specs.declared.numbers.field.Field.TheVariants.{DestinationPort, TcpFlags, IcmpType, ConnectionState, TimeToLive}
+use Rattle.fields.specs.declared.numbers.field.Field.TheVariants.{Source, Destination, InIface, OutIface, Protocol, Fragment, SourcePort, DestinationPort, TcpFlags, IcmpType, ConnectionState, TimeToLive}
 use Rattle.fields.specs.numbers.Field.{top}
-use Rattle.fields.specs.packet.Packet.{number_of_text}
+use Rattle.fields.specs.Packet.{number_of_text}
 use Rattle.fields.specs.text.Printed.{IsBareWord}
 use Rattle.fields.specs.values.ConnectionState.{packet_states}
 use Rattle.fields.specs.values.Interface.{interface_of, interface_value}

@@ -1,6 +1,6 @@
 //! Numbers, addresses, ports and ICMP types, alone or from one to another.
 ghost use Rattle.std.specs.Prelude.{◌≡◌, ◌≤◌, ◌+◌, ◌-◌};
-ghost use Rattle.fields.specs.values.PacketIcmp.{packet_icmp_of};
+ghost use Rattle.fields.specs.values.Icmp.{packet_icmp_of};
 ghost use Rattle.notation.specs.Range.{between, ends_at, addresses_in, ports_in, numbers_in, protocols_in, types_in};
 ghost use Rattle.fields.specs.values.Prefix.{address_of, block_size};
 
@@ -91,7 +91,7 @@ pub(crate) fn protocols(text: &[u8]) -> Option<(u128, u128)>
 }
 
 // The number of an ICMP type and code.
-#[tactic(auto, unfolding(fields::specs::values::PacketIcmp::packet_icmp_of))]
+#[tactic(auto, unfolding(fields::specs::values::Icmp::packet_icmp_of))]
 fn type_and_code(text: &[u8]) -> Option<u32>
     ensures { result ≡ packet_icmp_of text.now }
 {

@@ -2,7 +2,7 @@
 //! number.
 ghost use Rattle.std.specs.Prelude.{◌≡◌, ◌≤◌, ◌<◌, ◌++◌, flat_map, OnOk, IfOk};
 ghost use Rattle.fields.specs.numbers.Field.{top};
-ghost use Rattle.notation.specs.Plain.{IsPart, digit_byte, digits_of, end_text, has_ranges, hexadecimal_text, mark_of, plain_text};
+ghost use Rattle.notation.specs.IntervalText.{IsPart, digit_byte, digits_of, end_text, has_ranges, hexadecimal_text, mark_of, plain_text};
 ghost use Rattle.notation.specs.SetText.{IsRangeText};
 
 use crate::values::put_value;

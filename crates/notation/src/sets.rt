@@ -4,7 +4,7 @@ ghost use Rattle.std.specs.List.{list_all};
 ghost use Rattle.std.specs.Str.{bytes_eq};
 ghost use Rattle.fields.specs.numbers.Field.{top};
 ghost use Rattle.fields.specs.numbers.Spans.{has, in_span};
-ghost use Rattle.notation.specs.Plain.{IsPart};
+ghost use Rattle.notation.specs.IntervalText.{IsPart};
 ghost use Rattle.notation.specs.SetText.{is_plain, IsRangeText, IsPartText, IsListText, IsSetText, one_by_one, parts};
 
 use crate::plain::{has_ranges, plain_text};

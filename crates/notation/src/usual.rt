@@ -2,7 +2,7 @@
 //! caller reads it back, and takes the plain text where it stands for other numbers.
 ghost use Rattle.std.specs.Prelude.{◌≡◌, ◌-◌, ◌≤◌, ◌<◌, ◌^◌, ◌++◌, IfOk, OnOk};
 ghost use Rattle.std.specs.Int.{w32, leading_zeros};
-ghost use Rattle.notation.specs.Plain.{IsPart};
+ghost use Rattle.notation.specs.IntervalText.{IsPart};
 ghost use Rattle.notation.specs.steps.UsualText.{addresses_text, interfaces_text, types_text, usual_text};
 
 use crate::values::{put_number, put_value};

@@ -1,5 +1,5 @@
-pub mod Answered
+pub mod AuditLine
 pub mod Buffers
-pub mod Faults
+pub mod JobLine
+pub mod Line
 pub mod Loaded
-pub mod line

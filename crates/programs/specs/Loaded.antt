@@ -1,13 +1,31 @@
--- What restoring a file into a session does, by its answer.
-use Rattle.std.specs.Prelude.{◌≡◌, ◌⊎◌, ℕ, Bool, false, List, Option, Result, Ok, Err, IfSome, IsErrAnd, fold}
+-- Why a program ends early, and what restoring a file into a session does, by its answer.
+use Rattle.std.specs.Prelude.{◌≡◌, ◌⊎◌, ℕ, List, Bool, false, Option, Result, Ok, Err, IfSome, IsErrAnd, fold}
 use Rattle.std.specs.Borrow.{Bor}
+use Rattle.sessions.specs.declared.run.session.RunFault.{RunFault}
+use Rattle.sessions.specs.declared.run.session.RunFault.TheVariants.{ReadFailed, WriteFailed}
 use Rattle.sessions.specs.line.Outcome.{Line}
 use Rattle.sessions.specs.run.Session.{restore_session, restore_start, step}
 use Rattle.sessions.specs.run.Views.{table_of}
 use Rattle.sessions.specs.declared.run.session.Session.{Session}
-use Rattle.programs.specs.Faults.{IsUnopened}
 use Rattle.programs.specs.declared.fault.ProgramFault.{ProgramFault}
-use Rattle.programs.specs.declared.fault.ProgramFault.TheVariants.{NoMemory, NotText, NoSubcommand, NoFile, CannotOpen, CannotRead, InputFailed, OutputFailed}
+use Rattle.programs.specs.declared.fault.ProgramFault.TheVariants.{NoMemory, NotText, CannotOpen, InputFailed, OutputFailed, NoSubcommand, NoFile, CannotRead}
+
+-- ---- Why a program ends early.
+
+-- a run stopped: its reader is the program's input, its writer the output
+abbrev pub run_stopped : RunFault → ProgramFault
+run_stopped ReadFailed = InputFailed
+run_stopped WriteFailed = OutputFailed
+
+-- the file of this name can't be opened
+abbrev pub IsUnopened : Bor (List ℕ) → ProgramFault → Type 0
+IsUnopened file fault = (fault ≡ NoMemory) ⊎ (fault ≡ CannotOpen file)
+
+-- the words can't be had
+abbrev pub AreNoWords : ProgramFault → Type 0
+AreNoWords fault = (fault ≡ NoMemory) ⊎ (fault ≡ NotText)
+
+-- ---- What restoring a file into a session does, by its answer.
 
 -- table and status are those of a restore of some bytes, all that are left where these are known, without `--noflush`, in place and
 -- without a listing, where each line has a mark that says whether memory was refused to it

@@ -48,7 +48,7 @@ impl<T: Drop> From<AllocFailed<T>> for ProgramFault<'_> {
 }
 
 impl From<RunFault> for ProgramFault<'_> {
-    ghost use Rattle.programs.specs.Faults.{run_stopped};
+    ghost use Rattle.programs.specs.Loaded.{run_stopped};
 
     ghost from_gives = { λ stopped fault. fault ≡ run_stopped stopped };
 

@@ -1,7 +1,6 @@
 //! Files that a program restores into a session before its task.
 ghost use Rattle.std.specs.Prelude.{IfErr};
-ghost use Rattle.programs.specs.Faults.{IsUnopened};
-ghost use Rattle.programs.specs.Loaded.{IsLoaded, IsOpenedAndLoaded};
+ghost use Rattle.programs.specs.Loaded.{IsUnopened, IsLoaded, IsOpenedAndLoaded};
 
 use crate::buffers::{buffered_input, buffered_output, let_go};
 use crate::fault::ProgramFault;

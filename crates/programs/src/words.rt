@@ -1,7 +1,7 @@
 //! The words of a program's command line, and the reply to a line that gives no task.
 ghost use Rattle.std.specs.Prelude.{◌≡◌, IfErr, IfOk, drop, map, string_bytes};
-ghost use Rattle.programs.specs.Answered.{IsAnswered, IsReplied};
-ghost use Rattle.programs.specs.Faults.{AreNoWords};
+ghost use Rattle.programs.specs.Line.{IsAnswered, IsReplied};
+ghost use Rattle.programs.specs.Loaded.{AreNoWords};
 
 use crate::fault::ProgramFault;
 use crate::line::LineFault;

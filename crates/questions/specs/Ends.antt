@@ -1,6 +1,6 @@
 -- Which rule decides the walk of a packet.
 use Rattle.std.specs.Prelude.{◌≡◌, ◌-◌, ◌<◌, ◌≤◌, length, slice_get, slice_index_or, Option, None, option_map, if◌then◌else◌}
-use Rattle.fields.specs.packet.Packet.{PacketView as Packet}
+use Rattle.fields.specs.Packet.{PacketView as Packet}
 use Rattle.rules.specs.rule.Rules.{Rule, empty_rule}
 use Rattle.table.specs.chains.Table.{Table, chain_at}
 use Rattle.table.specs.declared.verdict.Verdict.{Verdict}

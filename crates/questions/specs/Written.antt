@@ -2,8 +2,8 @@
 use Rattle.std.specs.Prelude.{◌≡◌, ℕ, List, Ok}
 use Rattle.fields.specs.declared.packet.hook.Hook.{Hook}
 use Rattle.fields.specs.numbers.Spans.{SpanSet}
-use Rattle.fields.specs.packet.Packet.{PacketView as Packet, packet_of}
-use Rattle.questions.specs.boxes.Area.{IsIn}
+use Rattle.fields.specs.Packet.{PacketView as Packet, packet_of}
+use Rattle.questions.specs.boxes.Boxes.{IsIn}
 
 -- some packet line writes the packet
 abbrev pub IsWritten : Packet → Type 0

@@ -1,4 +1,3 @@
-pub mod Aligned
 pub mod Alike
 pub mod Always
 pub mod Changes
@@ -7,12 +6,9 @@ pub mod Laws
 pub mod Necessary
 pub mod Reach
 pub mod Reason
-pub mod Resolved
 pub mod Rule
-pub mod Short
 pub mod Unclear
 pub mod Unknown
 pub mod Verdicts
 pub mod Walks
-pub mod Why
 pub mod Without

@@ -1,6 +1,6 @@
 //! Packets that packet lines write.
 ghost use Rattle.std.specs.Prelude.{◌≡◌, drop};
-ghost use Rattle.fields.specs.packet.Packet.{packet_of};
+ghost use Rattle.fields.specs.Packet.{packet_of};
 ghost use Rattle.questions.specs.Written.{IsWritten};
 
 use fields::{Packet, PacketFault, Words};
@@ -13,7 +13,7 @@ pub struct WrittenPacket {
 }
 
 impl Model for WrittenPacket {
-    ghost use Rattle.fields.specs.packet.Packet.{PacketView};
+    ghost use Rattle.fields.specs.Packet.{PacketView};
     ghost use Rattle.questions.specs.Written.{IsWritten};
 
     ghost Value = { PacketView };

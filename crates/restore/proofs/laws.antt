@@ -1,4 +1,4 @@
-pub mod calls
 pub mod commands
 pub mod sections
 pub mod listings
+pub mod CallLaws

@@ -1,6 +1,7 @@
 pub mod Sequence
-pub mod calls
 pub mod commands
 pub mod steps
 pub mod sections
-pub mod listings
+pub mod Calls
+pub mod Changes
+pub mod Listing

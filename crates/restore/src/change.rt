@@ -1,6 +1,6 @@
 //! Commands done to a table.
 ghost use Rattle.std.specs.Prelude.{IsTrue, OnOk};
-ghost use Rattle.table.specs.edits.Boxes.{MakesBoxes, MakesOneBox};
+ghost use Rattle.table.specs.edits.Edits.{MakesBoxes, MakesOneBox};
 ghost use Rattle.restore.specs.commands.Command.{IsApplied, IsChange, command_puts, meaning};
 
 use crate::command::Command;

@@ -1,7 +1,7 @@
 //! The laws of lists of lines and of lists of calls: the contract of each call is the law, and it does nothing else.
-ghost use Rattle.restore.specs.listings.RoundTrip.{ListingsRestoreClassifiers};
-ghost use Rattle.restore.specs.calls.Headline.{CallsLeaveWhatTheyAccept, RefusedCallsChangeNothing};
-ghost use Rattle.restore.specs.sections.Headline.{LinesLeaveWhatTheyRestore, RefusedLinesChangeNothing};
+ghost use Rattle.restore.specs.Listing.{ListingsRestoreClassifiers};
+ghost use Rattle.restore.specs.Calls.{CallsLeaveWhatTheyAccept, RefusedCallsChangeNothing};
+ghost use Rattle.restore.specs.sections.Lines.{LinesLeaveWhatTheyRestore, RefusedLinesChangeNothing};
 
 use crate::round_trip::listings_restore;
 use table::{calls_leave_what_they_accept, walks_go_by_their_cases};

@@ -2,10 +2,8 @@
 ghost use Rattle.std.specs.Prelude.{◌≡◌, ◌<◌, ◌++◌, codes, false, length, flat_map, option_map};
 ghost use Rattle.fields.specs.text.Tap.{has_failed, Puts};
 ghost use Rattle.table.specs.chains.Table.{chain_at, policy_of};
-ghost use Rattle.table.specs.edits.Made.{policy_text};
-ghost use Rattle.restore.specs.listings.Listing.{chain_line, head_line, head_with, listing, policy_word};
-ghost use Rattle.restore.specs.listings.Listing.{rule_line, rule_lines, rules_listing};
-ghost use Rattle.restore.specs.listings.RoundTrip.{RestoresItself};
+ghost use Rattle.table.specs.edits.Headline.{policy_text};
+ghost use Rattle.restore.specs.Listing.{chain_line, head_line, head_with, listing, policy_word, rule_line, rule_lines, rules_listing, RestoresItself};
 
 use crate::round_trip::listings_restore;
 use fields::{Tap, WriteFailed};

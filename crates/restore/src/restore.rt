@@ -1,9 +1,8 @@
 //! Restores: sections one after another, each put in place by its `COMMIT`.
 ghost use Rattle.std.specs.Prelude.{◌≡◌, Ok, OnOk, IsTrue, IsFalse};
-ghost use Rattle.table.specs.edits.Boxes.{MakesBoxes, MakesOneBox};
+ghost use Rattle.table.specs.edits.Edits.{MakesBoxes, MakesOneBox};
 ghost use Rattle.restore.specs.Sequence.{Gives};
-ghost use Rattle.restore.specs.sections.Boxes.{line_puts};
-ghost use Rattle.restore.specs.sections.Lines.{IsLine};
+ghost use Rattle.restore.specs.sections.Lines.{line_puts, IsLine};
 ghost use Rattle.restore.specs.sections.Restore.{begun_restore, between, committed, ended_at, is_commit, opened, opening, skipped};
 ghost use Rattle.restore.specs.sections.Section.{is_out_of_memory, is_quiet, ran_out};
 

@@ -1,5 +1,5 @@
 //! The law that a listing restores the table: the contract of the call is the law.
-ghost use Rattle.restore.specs.listings.RoundTrip.{RestoresAsEqual, CommitsAsEqual};
+ghost use Rattle.restore.specs.Listing.{RestoresAsEqual, CommitsAsEqual};
 
 use rules::lines_of_rules_read_back;
 use table::tables_are_made_by_edits;

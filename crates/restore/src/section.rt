@@ -3,11 +3,10 @@ ghost use Rattle.std.specs.Prelude.{◌≡◌, ◌||◌, ◌≢◌, [], IfOk, On
 ghost use Rattle.fields.specs.text.Words.{words_of};
 ghost use Rattle.fields.specs.text.WordSlice.{words_in};
 ghost use Rattle.table.specs.chains.Table.{has_chain};
-ghost use Rattle.table.specs.edits.Boxes.{MakesBoxes, MakesOneBox};
+ghost use Rattle.table.specs.edits.Edits.{MakesBoxes, MakesOneBox};
 ghost use Rattle.restore.specs.Sequence.{Gives, or_refused, refused_as};
-ghost use Rattle.restore.specs.sections.Section.{OfTable, Quoting, asked_by, begins_with, asked_of_chain, asked_of_command, begun, chain_edit};
-ghost use Rattle.restore.specs.sections.Boxes.{asks_put};
-ghost use Rattle.restore.specs.sections.Section.{asked, done, edited_by, is_out_of_memory, is_quiet, is_too_long, line_in, ran_out};
+ghost use Rattle.restore.specs.sections.Section.{OfTable, Quoting, asked_by, begins_with, asked_of_chain, asked_of_command, begun, chain_edit, asked, done, edited_by, is_out_of_memory, is_quiet, is_too_long, line_in, ran_out};
+ghost use Rattle.restore.specs.sections.Lines.{asks_put};
 
 pub(crate) mod chain_line;
 pub(crate) mod names;

@@ -1,4 +1,4 @@
-pub mod boxing
+pub mod BoxLaws
 pub mod options
 pub mod printing
 pub mod reading

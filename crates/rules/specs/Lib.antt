@@ -1,10 +1,10 @@
-pub mod Sequence
-pub mod boxing
-pub mod options
-pub mod printing
-pub mod reading
-pub mod rule
-pub mod steps
 pub use Rattle.fields.specs.numbers
 pub use Rattle.fields.specs.text
 pub use Rattle.fields.specs.values
+pub mod Boxed
+pub mod Printing
+pub mod Sequence
+pub mod options
+pub mod reading
+pub mod rule
+pub mod steps

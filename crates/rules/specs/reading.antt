@@ -1,3 +1,2 @@
 pub mod Grammar
-pub mod OptionWords
 pub mod Steps

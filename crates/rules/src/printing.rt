@@ -1,10 +1,9 @@
 //! The text of a rule.
 ghost use Rattle.std.specs.Prelude.{◌≡◌, false, flat_map};
 ghost use Rattle.fields.specs.text.Printed.{spaced_all};
-ghost use Rattle.fields.specs.text.OneLine.{IsOneLine};
+ghost use Rattle.fields.specs.text.Line.{IsOneLine};
 ghost use Rattle.fields.specs.text.Tap.{has_failed, Puts};
-ghost use Rattle.rules.specs.printing.Printing.{shown_bang, rule_text};
-ghost use Rattle.rules.specs.printing.RoundTrip.{TextReadsBack, IsOnlyOne, HasShortLine};
+ghost use Rattle.rules.specs.Printing.{shown_bang, rule_text, TextReadsBack, IsOnlyOne, HasShortLine};
 ghost use Rattle.rules.specs.rule.Readable.{IsInOrder, IsReadable};
 ghost use Rattle.rules.specs.steps.Writing.{value_text, option_value_text, start_text, match_text, action_text};
 ghost use Rattle.rules.specs.steps.Views.{view_match, view_spec};

@@ -51,7 +51,7 @@ const _: () = prove!(size_of::<OptionValue>() == 88);
 impl Model for Rule {
     ghost use Rattle.rules.specs.rule.Rules.{Rule as Specified};
     ghost use Rattle.rules.specs.steps.Views.{view_spec};
-    ghost use Rattle.rules.specs.printing.RoundTrip.{ReadsItself};
+    ghost use Rattle.rules.specs.Printing.{ReadsItself};
 
     ghost Value = { Specified };
 
@@ -66,7 +66,7 @@ impl PartialEq for Rule {
     ghost use Rattle.std.specs.Ordering.{on};
     ghost use Rattle.std.specs.Cmp.{partial_equiv_from_equiv};
     ghost use Rattle.std.specs.Cmp.Lexicographic.{pointwise, on_texts_equal};
-    ghost use Rattle.rules.specs.printing.Printing.{rule_text};
+    ghost use Rattle.rules.specs.Printing.{rule_text};
 
     ghost eq = { on rule_text (pointwise nat_eq) };
 
@@ -79,7 +79,7 @@ impl PartialEq for Rule {
 
 impl Eq for Rule {
     ghost use Rattle.std.specs.Cmp.Lexicographic.{on_texts_equal};
-    ghost use Rattle.rules.specs.printing.Printing.{rule_text};
+    ghost use Rattle.rules.specs.Printing.{rule_text};
 
     ghost laws = { on_texts_equal rule_text };
 }
@@ -145,8 +145,7 @@ impl Rule {
     ghost use Rattle.rules.specs.rule.Actions.{target_of, with_chain_name, names_chain};
     ghost use Rattle.rules.specs.rule.Allows.{asks_on, allows};
     ghost use Rattle.rules.specs.rule.Readable.{IsInOrder, IsReadable};
-    ghost use Rattle.rules.specs.printing.Printing.{rule_text};
-    ghost use Rattle.rules.specs.printing.RoundTrip.{ReadsItself, TextReadsBack};
+    ghost use Rattle.rules.specs.Printing.{rule_text, ReadsItself, TextReadsBack};
     ghost use Rattle.rules.specs.steps.Views.{view_spec};
 
     // The rule of what was read.

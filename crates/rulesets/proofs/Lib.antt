@@ -1,0 +1,2 @@
+pub mod RulesByLinesLaws
+pub mod SectionLineLaws

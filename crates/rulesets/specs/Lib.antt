@@ -1,1 +1,2 @@
-pub mod conditions
+pub mod OpenConditions
+pub mod RulesByLines

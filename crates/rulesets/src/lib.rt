@@ -4,6 +4,7 @@
 mod conditions;
 mod dump;
 mod fault;
+mod laws;
 mod loading;
 mod reading;
 mod text;
@@ -12,6 +13,7 @@ pub use conditions::match_counts::{MatchCount, open_counts};
 pub use conditions::open_conditions::{OpenConditions, Place};
 pub use dump::{Dump, contradict, has_opposite};
 pub use fault::RulesetFault;
+pub use laws::rules_stand_beside_needs;
 pub use loading::line_input::Line;
 pub use reading::{OneDump, TwoDumps, read_one, read_plain, read_two};
 pub use text::condition_text::put_condition;

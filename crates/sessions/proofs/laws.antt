@@ -1,3 +1,4 @@
-pub mod reply
 pub mod line
 pub mod run
+pub mod ReplyLaws
+pub mod ReplyRows

@@ -1,4 +1,4 @@
-pub mod reply
+pub mod Replies
 pub mod line
 pub mod run
 pub mod steps

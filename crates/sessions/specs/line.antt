@@ -1,5 +1,4 @@
 pub mod Fault
-pub mod Opening
 pub mod Request
 pub mod Outcome
 pub mod Boxes

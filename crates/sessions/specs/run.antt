@@ -1,7 +1,6 @@
+pub mod Console
 pub mod Session
 pub mod Run
 pub mod Accepted
 pub mod Headline
-pub mod Several
-pub mod Console
 pub mod Views

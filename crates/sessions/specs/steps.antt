@@ -1,2 +1,1 @@
-pub mod Comes
 pub mod Lines

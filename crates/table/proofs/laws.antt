@@ -1,4 +1,4 @@
 pub mod chains
 pub mod edits
 pub mod walk
-pub mod search
+pub mod SearchLaws

@@ -1,4 +1,2 @@
-pub mod Boxes
 pub mod Edits
 pub mod Headline
-pub mod Made

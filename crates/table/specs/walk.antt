@@ -1,4 +1,3 @@
 pub mod Cases
 pub mod Depth
-pub mod Trail
 pub mod Walk

@@ -1,14 +1,11 @@
 //! One chain: its name, its rules, the chains that they lead to, their classifier, and how many rules of the table name it.
-ghost use Rattle.std.specs.Prelude.{◌≡◌, ◌<◌, ◌≤◌, ◌+◌, ◌-◌, ◌^◌, [], length, map, insert, remove, slice_set};
-ghost use Rattle.std.specs.Prelude.{slice_index_or};
-ghost use Rattle.std.specs.Prelude.{OnOk, OnErr, IfOk, IfSome};
+ghost use Rattle.std.specs.Prelude.{◌≡◌, ◌<◌, ◌≤◌, ◌+◌, ◌-◌, ◌^◌, [], length, map, insert, remove, slice_set, slice_index_or, OnOk, OnErr, IfOk, IfSome};
 ghost use Rattle.std.specs.List.{position};
-ghost use Rattle.classify.specs.search.NextMatch.{next_match};
+ghost use Rattle.classify.specs.NextMatch.{next_match};
 ghost use Rattle.rules.specs.rule.Allows.{allows_each, matches};
-ghost use Rattle.table.specs.steps.StoredChains.{IsClassified, has_text, rules_in};
-ghost use Rattle.table.specs.edits.Boxes.{MakesOneBox, MakesOneBoxAtMost};
-ghost use Rattle.table.specs.steps.Edges.{AreEdges};
-ghost use Rattle.table.specs.steps.Renames.{NameChains, retargeted};
+ghost use Rattle.table.specs.steps.StoredChains.{IsClassified, has_text, rules_in, AreEdges};
+ghost use Rattle.table.specs.edits.Edits.{MakesOneBox, MakesOneBoxAtMost};
+ghost use Rattle.table.specs.steps.Kept.{NameChains, retargeted};
 
 mod copy;
 mod edges;
@@ -23,7 +20,7 @@ use std::alloc::{AllocError, Global};
 use std::marker::Model;
 
 // Whether a rule of a chain has the text of the rule.
-#[tactic(auto, using(crate::proofs::laws::chains::StoredChainLaws::texts_decide))]
+#[tactic(auto, using(crate::proofs::laws::chains::StoreLaws::texts_decide))]
 fn has_text(rule: &Rule, entry: &Entry) -> bool
     ensures { result ≡ has_text rule.now entry.now }
 {
@@ -43,8 +40,7 @@ pub(crate) struct Chain {
 }
 
 impl Model for Chain {
-    ghost use Rattle.table.specs.steps.StoredChains.{StoredChain, IsClassified};
-    ghost use Rattle.table.specs.steps.Edges.{AreEdges};
+    ghost use Rattle.table.specs.steps.StoredChains.{StoredChain, IsClassified, AreEdges};
 
     ghost Value = { StoredChain };
 

@@ -1,11 +1,8 @@
 //! Edits of one chain's rules, with the counts of the chains that they lead to; all chains emptied; new chains.
-ghost use Rattle.std.specs.Prelude.{◌≡◌, ◌<◌, ◌≤◌, ◌+◌, ℕ, [], length, insert, remove, slice_set, OnOk};
-ghost use Rattle.std.specs.Prelude.{OnErr, None};
+ghost use Rattle.std.specs.Prelude.{◌≡◌, ◌<◌, ◌≤◌, ◌+◌, ℕ, [], length, insert, remove, slice_set, OnOk, OnErr, None};
 ghost use Rattle.table.specs.chains.Sound.{IsSound};
-ghost use Rattle.table.specs.edits.Edits.{FlushAll, NewChain, changed, edited, fault_of};
-ghost use Rattle.table.specs.steps.Kept.{AreKept, AreRecounted, IsIn, IsLinked, IsIndexFor, leading_in, name_in, stored_in};
-ghost use Rattle.table.specs.steps.Kept.{references_at, stored_at, table_of, view_of};
-ghost use Rattle.table.specs.edits.Boxes.{MakesOneBox, MakesOneBoxAtMost};
+ghost use Rattle.table.specs.edits.Edits.{FlushAll, NewChain, changed, edited, fault_of, MakesOneBox, MakesOneBoxAtMost};
+ghost use Rattle.table.specs.steps.Kept.{AreKept, AreRecounted, IsIn, IsLinked, IsIndexFor, leading_in, name_in, stored_in, references_at, stored_at, table_of, view_of};
 
 use crate::chain::Chain;
 use crate::chain::entry::Entry;

@@ -1,8 +1,7 @@
 //! Rules put into chains where they may stand.
 ghost use Rattle.std.specs.Prelude.{◌<◌, ◌≤◌, length, OnOk};
-ghost use Rattle.table.specs.steps.Kept.{AreKept, IsUnmarked, stored_in};
-ghost use Rattle.table.specs.steps.Puts.{IsPutIn, IsPutOver};
-ghost use Rattle.table.specs.edits.Boxes.{MakesOneBox, MakesOneBoxAtMost};
+ghost use Rattle.table.specs.steps.Kept.{AreKept, IsUnmarked, stored_in, IsPutIn, IsPutOver};
+ghost use Rattle.table.specs.edits.Edits.{MakesOneBox, MakesOneBoxAtMost};
 
 use crate::chain::entry::Entry;
 use crate::fault::TableFault;

@@ -1,8 +1,7 @@
 //! A chain renamed and moved in the index, and the rules that name it. Where its count is 0, no rule is looked at.
 ghost use Rattle.std.specs.Prelude.{◌≡◌, ◌<◌, ◌≤◌, length};
 ghost use Rattle.table.specs.edits.Edits.{Rename, edited};
-ghost use Rattle.table.specs.steps.Kept.{AreKept, IsIn, IsIndexFor, name_in, table_of};
-ghost use Rattle.table.specs.steps.Renames.{AreRetargeted, moved_key};
+ghost use Rattle.table.specs.steps.Kept.{AreKept, IsIn, IsIndexFor, name_in, table_of, AreRetargeted, moved_key};
 
 use crate::parts::Parts;
 use fields::Name;

@@ -1,8 +1,7 @@
 //! Chains under keys: where a chain stands in the index, found by halving, and how many rules it has.
-ghost use Rattle.std.specs.Prelude.{◌≡◌, ◌≢◌, ◌<◌, ◌≤◌, ℕ, [], length, slice_index_or, IfSome, IsSome};
-ghost use Rattle.std.specs.Prelude.{MatchOption, MatchResult};
+ghost use Rattle.std.specs.Prelude.{◌≡◌, ◌≢◌, ◌<◌, ◌≤◌, ℕ, [], length, slice_index_or, IfSome, IsSome, MatchOption, MatchResult};
 ghost use Rattle.std.specs.List.{position};
-ghost use Rattle.fields.specs.packet.Hook.{name};
+ghost use Rattle.fields.specs.Hook.{name};
 ghost use Rattle.table.specs.chains.Table.{built_in_names, is_named};
 ghost use Rattle.table.specs.edits.Edits.{out_of_range};
 ghost use Rattle.table.specs.steps.StoredChains.{has_text};

@@ -1,16 +1,12 @@
 //! The table: its edits, what it shows, verdicts and trails.
-ghost use Rattle.std.specs.Prelude.{◌≡◌, ◌<◌, ◌≤◌, ◌-◌, [], length, map, slice_index, slice_index_or, slice_get};
-ghost use Rattle.std.specs.Prelude.{Some, None, IfOk, OnOk};
-ghost use Rattle.classify.specs.classifier.Classifier.{IsClassifierOfRules};
+ghost use Rattle.std.specs.Prelude.{◌≡◌, ◌<◌, ◌≤◌, ◌-◌, [], length, map, slice_index, slice_index_or, slice_get, Some, None, IfOk, OnOk};
+ghost use Rattle.classify.specs.Classifier.{IsClassifierOfRules};
 ghost use Rattle.table.specs.chains.Sound.{IsSound, LeadsByPaths};
 ghost use Rattle.std.specs.List.{position};
 ghost use Rattle.table.specs.chains.Table.{AreClassified, chain_at, empty_table, emptied, is_named};
 ghost use Rattle.table.specs.walk.Cases.{Walks};
-ghost use Rattle.table.specs.walk.Walk.{Walked, walk};
-ghost use Rattle.table.specs.walk.Trail.{Shows};
-ghost use Rattle.table.specs.edits.Edits.{Append, DeleteAt, DeleteRule, Flush, FlushAll, Has, Insert, IsStep};
-ghost use Rattle.table.specs.edits.Edits.{DeleteChain, DeleteChains, IsStepIfRoom, NewChain, Rename, Replace, SetPolicy};
-ghost use Rattle.table.specs.edits.Boxes.{MakesOneBox, MakesOneBoxAtMost};
+ghost use Rattle.table.specs.walk.Walk.{Walked, walk, Shows};
+ghost use Rattle.table.specs.edits.Edits.{Append, DeleteAt, DeleteRule, Flush, FlushAll, Has, Insert, IsStep, DeleteChain, DeleteChains, IsStepIfRoom, NewChain, Rename, Replace, SetPolicy, MakesOneBox, MakesOneBoxAtMost};
 
 use crate::chain::Chain;
 use crate::fault::TableFault;

@@ -1,11 +1,9 @@
 //! The walk of a packet, by the keys of chains, with a return stack of fixed size: a short one first, and the deep
 //! one where that is full.
 ghost use Rattle.std.specs.Prelude.{◌≡◌, ◌<◌, ◌≤◌, ℕ, List, length, IfSome, IfNone, Option, Some, None};
-ghost use Rattle.table.specs.steps.Found.{AreFound};
+ghost use Rattle.table.specs.steps.Walking.{AreFound, Follows, IsHit, IsState, LeadsIn, NoRoom, next_by, start, state_of, walk_at};
 ghost use Rattle.table.specs.steps.Kept.{AreStored, listed};
 ghost use Rattle.table.specs.steps.StoredChains.{StoredChain};
-ghost use Rattle.table.specs.steps.Walking.{Follows, IsHit, IsState, LeadsIn, NoRoom, next_by, start, state_of};
-ghost use Rattle.table.specs.steps.Walking.{walk_at};
 ghost use Rattle.table.specs.walk.Walk.{first_hit};
 
 pub(crate) mod depth;

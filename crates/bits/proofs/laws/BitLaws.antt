@@ -1,11 +1,17 @@
--- Laws of the bits of a word.
-use Rattle.std.proofs.Common.{◌≡◌, ℕ, zero, suc, ◌+◌, ◌-◌, ◌*◌, ◌/◌, ◌%◌, ◌^◌, ◌<◌, ◌≤◌, Bool, true, false, List, [], ◌∷◌, ◌++◌, length, take, drop, refl, sym, ◌∙◌, ap, arith, append_assoc, length-append, zero-add, add-zero, lit≤, lit<, subst}
-use Rattle.std.specs.List.{insert, remove}
+-- Laws of the bits of a word and of many words, and of one bit that is read or written.
+use Rattle.std.proofs.Common.{◌≡◌, ℕ, zero, suc, ◌+◌, ◌-◌, ◌*◌, ◌/◌, ◌%◌, ◌^◌, ◌<◌, ◌≤◌, Bool, true, false, List, [], ◌∷◌, ◌++◌, length, take, drop, refl, sym, ◌∙◌, ap, arith, append_assoc, length-append, zero-add, add-zero, lit≤, lit<, subst, get_or, append-nil, ◌≢◌, inl, inr}
 use Rattle.std.specs.Prelude.{nat_eq, bit_and, bit_or}
+use Rattle.std.specs.List.{insert, remove}
 use Rattle.std.proofs.lemmas.Nat.{shr-shr, field_of, mod-pow-add, pow_pos, mod_below, and_mask, or_shifted, one_shl, mod_low, shr_high, shr_below, shl-shr, shl_whole, mul-add-lt, pow-add}
-use Rattle.std.proofs.lemmas.List.{take_at, drop_at}
+use Rattle.std.proofs.lemmas.List.{take_at, drop_at, drop_more, take_more_set, drop-set-lt, take-append-drop, length-take-le, take_all, drop_all, get_or_append_left, get_or-append_right, set-append_left, set-append_right, length-set, same_lists, get_or_default, get_or-set_same, get_or-set_other}
+use Rattle.std.proofs.Math.ListN.{set}
+use Rattle.std.proofs.lemmas.List.Edits.{insert-append_left, insert-append_right}
+use Rattle.std.specs.Int.{bit_at}
+use Rattle.std.proofs.lemmas.Bool.{cases_eq}
 use mir.Val.{bool_byte}
-use Rattle.bits.specs.steps.Packing.{low_bit, top_bit, word_bits}
+use Rattle.bits.specs.steps.Packing.{low_bit, top_bit, word_bits, all_bits}
+
+-- ---- Laws of the bits of a word.
 
 pub length-word_bits : (n w : ℕ) → length (word_bits n w) ≡ n
 unfolding word_bits
@@ -243,3 +249,130 @@ moved_down w a fits =
     ∙ topped (a % 2) (w / 2) lt
     ∙ ap (λ k. word_bits 63 (w / 2) ++ nat_eq k 1 ∷ []) same
     ∙ ap (λ (xs : List Bool). xs ++ low_bit a ∷ []) (sym (rest-bits 63 w))
+
+-- ---- Laws of the bits of many words.
+
+pub all_bits-append : (xs ys : List ℕ) → all_bits (xs ++ ys) ≡ all_bits xs ++ all_bits ys
+all_bits-append [] ys = refl
+all_bits-append (x ∷ xs) ys = ap (λ (bs : List Bool). word_bits 64 x ++ bs) (all_bits-append xs ys) ∙ sym (append_assoc (word_bits 64 x) (all_bits xs) (all_bits ys))
+
+pub length-all_bits : (ws : List ℕ) → length (all_bits ws) ≡ 64 * length ws
+length-all_bits [] = refl
+length-all_bits (w ∷ ws) = omega (arith, length-append (word_bits 64 w) (all_bits ws), length-word_bits 64 w, length-all_bits ws)
+
+pub all_bits-cut : (ws : List ℕ) (k : ℕ) → all_bits ws ≡ all_bits (take k ws) ++ all_bits (drop k ws)
+all_bits-cut ws k = ap all_bits (sym (take-append-drop k ws)) ∙ all_bits-append (take k ws) (drop k ws)
+
+pub all_bits-one : (w : ℕ) → all_bits (w ∷ []) ≡ word_bits 64 w
+all_bits-one w = append-nil (word_bits 64 w)
+
+-- a bit comes in, from the word at its place on
+pub shift_in_first : (ws : List ℕ) (at : ℕ) (b : Bool) → at ≤ 64 * length ws
+    → all_bits (take (at / 64) ws) ++ insert (all_bits (drop (at / 64) ws)) (at % 64) b ≡ insert (all_bits ws) at b
+shift_in_first ws at b le =
+    let q : at / 64 ≤ length ws = omega arith in
+    let n : length (all_bits (take (at / 64) ws)) ≡ 64 * (at / 64) = length-all_bits (take (at / 64) ws) ∙ ap (λ k. 64 * k) (length-take-le (at / 64) ws q) in
+    let ge : 64 * (at / 64) ≤ at = omega arith in
+    let off : at - 64 * (at / 64) ≡ at % 64 = omega arith in
+    sym (ap (λ (bs : List Bool). insert bs at b) (all_bits-cut ws (at / 64))
+    ∙ insert-append_right (all_bits (take (at / 64) ws)) (all_bits (drop (at / 64) ws)) (64 * (at / 64)) at b n ge
+    ∙ ap (λ k. all_bits (take (at / 64) ws) ++ insert (all_bits (drop (at / 64) ws)) k b) off)
+
+pub shift_in_more : (ws : List ℕ) (k off w' : ℕ) (c c' : Bool) → k < length ws → off ≤ 64
+    → word_bits 64 w' ++ c' ∷ [] ≡ insert (word_bits 64 (get_or ws k 0)) off c
+    → all_bits (take (k + 1) (set ws k w')) ++ insert (all_bits (drop (k + 1) (set ws k w'))) 0 c' ≡ all_bits (take k ws) ++ insert (all_bits (drop k ws)) off c
+shift_in_more ws k off w' c c' lt le e =
+    let w : ℕ = get_or ws k 0 in
+    let rest : List Bool = all_bits (drop (k + 1) ws) in
+    let t : all_bits (take (k + 1) (set ws k w')) ≡ all_bits (take k ws) ++ word_bits 64 w' =
+    ap all_bits (take_more_set ws k w' lt) ∙ all_bits-append (take k ws) (w' ∷ []) ∙ ap (λ (bs : List Bool). all_bits (take k ws) ++ bs) (all_bits-one w') in
+    let kk : k < k + 1 = omega arith in
+    let d : all_bits (drop (k + 1) (set ws k w')) ≡ rest = ap all_bits (drop-set-lt (k + 1) ws k w' kk) in
+    let left : all_bits (take (k + 1) (set ws k w')) ++ insert (all_bits (drop (k + 1) (set ws k w'))) 0 c' ≡ (all_bits (take k ws) ++ word_bits 64 w') ++ c' ∷ rest =
+    ap (λ (bs : List Bool). bs ++ insert (all_bits (drop (k + 1) (set ws k w'))) 0 c') t ∙ ap (λ (bs : List Bool). (all_bits (take k ws) ++ word_bits 64 w') ++ insert bs 0 c') d in
+    let within : off ≤ length (word_bits 64 w) = omega (arith, length-word_bits 64 w) in
+    let right : insert (all_bits (drop k ws)) off c ≡ word_bits 64 w' ++ c' ∷ rest =
+    ap (λ (vs : List ℕ). insert (all_bits vs) off c) (drop_more ws k 0 lt)
+    ∙ insert-append_left (word_bits 64 w) rest off c within
+    ∙ ap (λ (bs : List Bool). bs ++ rest) (sym e) ∙ append_assoc (word_bits 64 w') (c' ∷ []) rest in
+    left ∙ append_assoc (all_bits (take k ws)) (word_bits 64 w') (c' ∷ rest) ∙ sym (ap (λ (bs : List Bool). all_bits (take k ws) ++ bs) right)
+
+pub word_first : (w : ℕ) → word_bits 64 w ≡ low_bit w ∷ drop 1 (word_bits 64 w)
+unfolding word_bits
+word_first w = refl
+
+-- how far a bit has come in: what the words below k hold, and the carry before those from k on, is the whole
+pub record Carried (ws : List ℕ) (at : ℕ) (b : Bool) (us : List ℕ) (k off : ℕ) (c : Bool) : Type 0 where
+  pub in_word : off < 64
+  pub all : all_bits (take k us) ++ insert (all_bits (drop k us)) off c ≡ insert (all_bits ws) at b
+
+pub carried_first : (ws : List ℕ) (at : ℕ) (b : Bool) → at ≤ 64 * length ws → Carried ws at b ws (at / 64) (at % 64) b
+carried_first ws at b le = record { in_word = omega arith; all = shift_in_first ws at b le }
+
+pub carried_more : (ws : List ℕ) (at : ℕ) (b : Bool) (us : List ℕ) (k off w' : ℕ) (c c' : Bool) → Carried ws at b us k off c → k < length us
+    → word_bits 64 w' ++ c' ∷ [] ≡ insert (word_bits 64 (get_or us k 0)) off c → Carried ws at b (set us k w') (k + 1) 0 c'
+carried_more ws at b us k off w' c c' h lt e = record { in_word = lit< tt; all = shift_in_more us k off w' c c' lt (omega arith) e ∙ h.all }
+
+insert_nil : (off : ℕ) (c : Bool) → insert [] off c ≡ c ∷ []
+insert_nil zero c = refl
+insert_nil (suc off) c = refl
+
+pub carried_all : (ws : List ℕ) (at : ℕ) (b : Bool) (us : List ℕ) (k off : ℕ) (c : Bool) → Carried ws at b us k off c → length us ≤ k → all_bits us ++ c ∷ [] ≡ insert (all_bits ws) at b
+carried_all ws at b us k off c h le =
+    sym (ap (λ (vs : List ℕ). all_bits vs ++ insert (all_bits (drop k us)) off c) (take_all k us le)
+    ∙ ap (λ (vs : List ℕ). all_bits us ++ insert (all_bits vs) off c) (drop_all k us le)
+    ∙ ap (λ (bs : List Bool). all_bits us ++ bs) (insert_nil off c)) ∙ h.all
+
+-- ---- One bit of a row, read or written.
+
+pub word_bit_at : (n w i : ℕ) → i < n → get_or (word_bits n w) i false ≡ low_bit (w / 2 ^ i)
+unfolding word_bits
+word_bit_at zero w i lt = absurd (omega arith)
+word_bit_at (suc n) w zero lt = let e : w / 2 ^ 0 ≡ w = omega arith in ap low_bit (sym e)
+word_bit_at (suc n) w (suc i) lt =
+    let e : 1 + i ≡ suc i = omega arith in
+    word_bit_at n (w / 2) i (omega arith) ∙ ap low_bit (shr-shr w 1 i ∙ ap (λ k. w / 2 ^ k) e)
+
+pub all_bit_at : (ws : List ℕ) (q r : ℕ) → r < 64 → get_or (all_bits ws) (64 * q + r) false ≡ low_bit (get_or ws q 0 / 2 ^ r)
+all_bit_at [] q r in' = let e : 0 / 2 ^ r ≡ 0 = omega arith in ap low_bit (sym e)
+all_bit_at (w ∷ ws) zero r in' =
+    let z : 64 * 0 + r ≡ r = omega arith in
+    let long : length (word_bits 64 w) ≡ 64 = length-word_bits 64 w in
+    let in'' : r < length (word_bits 64 w) = omega arith in
+    ap (λ k. get_or (word_bits 64 w ++ all_bits ws) k false) z ∙ get_or_append_left (word_bits 64 w) (all_bits ws) false r in'' ∙ word_bit_at 64 w r in'
+all_bit_at (w ∷ ws) (suc q) r in' =
+    let long : length (word_bits 64 w) ≡ 64 = length-word_bits 64 w in
+    let past : 64 ≤ 64 * suc q + r = omega arith in
+    let e : 64 * suc q + r - 64 ≡ 64 * q + r = omega arith in
+    get_or-append_right (word_bits 64 w) (all_bits ws) 64 (64 * suc q + r) false long past ∙ ap (λ k. get_or (all_bits ws) k false) e ∙ all_bit_at ws q r in'
+
+-- ---- a bit written
+
+pub all_bits-set : (ws : List ℕ) (q r w : ℕ) (b : Bool) → q < length ws → r < 64 → word_bits 64 w ≡ set (word_bits 64 (get_or ws q 0)) r b → all_bits (set ws q w) ≡ set (all_bits ws) (64 * q + r) b
+all_bits-set [] q r w b lt in' e = absurd (omega arith)
+all_bits-set (v ∷ ws) zero r w b lt in' e =
+    let z : 64 * 0 + r ≡ r = omega arith in
+    let long : length (word_bits 64 v) ≡ 64 = length-word_bits 64 v in
+    let in'' : r < length (word_bits 64 v) = omega arith in
+    ap (λ (bs : List Bool). bs ++ all_bits ws) e ∙ sym (set-append_left (word_bits 64 v) (all_bits ws) r b in'') ∙ ap (λ k. set (word_bits 64 v ++ all_bits ws) k b) (sym z)
+all_bits-set (v ∷ ws) (suc q) r w b lt in' e =
+    let long : length (word_bits 64 v) ≡ 64 = length-word_bits 64 v in
+    let past : 64 ≤ 64 * suc q + r = omega arith in
+    let f : 64 * suc q + r - 64 ≡ 64 * q + r = omega arith in
+    ap (λ (bs : List Bool). word_bits 64 v ++ bs) (all_bits-set ws q r w b (omega arith) in' e ∙ ap (λ k. set (all_bits ws) k b) (sym f))
+    ∙ sym (set-append_right (word_bits 64 v) (all_bits ws) 64 (64 * suc q + r) b long past)
+
+-- a word with one bit written
+pub bit_written : (v word off : ℕ) (b : Bool) → off < 64 → low_bit (v / 2 ^ off) ≡ b → ((i : ℕ) → i < 64 → i ≢ off → bit_at v i ≡ bit_at word i) → word_bits 64 v ≡ set (word_bits 64 word) off b
+bit_written v word off b lt here others =
+    let bits : List Bool = word_bits 64 word in
+    let long : length bits ≡ 64 = length-word_bits 64 word in
+    let long' : length (word_bits 64 v) ≡ 64 = length-word_bits 64 v in
+    same_lists (word_bits 64 v) (set bits off b) (long' ∙ sym (length-set bits off b ∙ long)) (λ i d in'.
+    let i64 : i < 64 = omega (arith, in', long') in
+    get_or_default (word_bits 64 v) i d false in' ∙ word_bit_at 64 v i i64
+    ∙ elim (cases_eq i off) [
+      | inl e ↦ (ap (λ k. low_bit (v / 2 ^ k)) e ∙ here ∙ sym (get_or-set_same bits off b d (omega (arith, long, lt))) ∙ ap (λ k. get_or (set bits off b) k d) (sym e))
+      | inr ne ↦ (
+          ap (λ x. nat_eq x 1) (others i i64 ne) ∙ sym (word_bit_at 64 word i i64) ∙ sym (get_or_default bits i d false (omega (arith, long, i64))) ∙ sym (get_or-set_other bits off i b d ne))
+    ])

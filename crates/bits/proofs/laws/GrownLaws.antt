@@ -7,15 +7,11 @@ use Rattle.std.proofs.lemmas.List.{length-map, get_or-map, get_or_append_left, g
 use Rattle.bits.specs.declared.whole_rows.Kept.{Kept}
 use Rattle.bits.specs.declared.whole_rows.Kept.TheVariants as kept
 use Rattle.bits.specs.declared.row_part.RowPart.{RowPart}
-use Rattle.bits.specs.steps.Held.{words_in}
-use Rattle.bits.specs.steps.RowParts.{part_row, IsWithin}
-use Rattle.bits.specs.steps.SlotWords.{WordsInSlots, IsAppended, IsWidened}
-use Rattle.bits.specs.steps.StoredRows.{row_of, all_words, kept_at, part_count, parts, IsKept, IsOwned, AreStored}
+use Rattle.bits.specs.steps.Held.{words_in, WordsInSlots, IsAppended, IsWidened}
+use Rattle.bits.specs.steps.StoredRows.{part_row, IsWithin, row_of, all_words, kept_at, part_count, parts, IsKept, IsOwned, AreStored}
 use Rattle.bits.proofs.laws.PartLaws.{all_blank}
-use Rattle.bits.proofs.laws.RowListLaws.{concat_push, words_in_push}
-use Rattle.bits.proofs.laws.RowsLaws.{length-words_in}
-use Rattle.bits.proofs.laws.SlotCallLaws.{Holds, IsFound}
-use Rattle.bits.proofs.laws.StoredLaws.{kept_more, kept_part, kept_whole, room_stays, pushed_size, row_more, shown, shown_at, shown_size}
+use Rattle.bits.proofs.laws.RowsLaws.{concat_push, words_in_push, length-words_in}
+use Rattle.bits.proofs.laws.StoredLaws.{Holds, IsFound, kept_more, kept_part, kept_whole, room_stays, pushed_size, row_more, shown, shown_at, shown_size}
 
 -- ---- one row more
 

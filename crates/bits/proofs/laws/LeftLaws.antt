@@ -6,14 +6,10 @@ use Rattle.std.proofs.lemmas.List.{length-set, length-take-le, get_or-take, get_
 use Rattle.bits.specs.declared.whole_rows.Kept.{Kept}
 use Rattle.bits.specs.declared.whole_rows.Kept.TheVariants as kept
 use Rattle.bits.specs.declared.row_part.RowPart.{RowPart}
-use Rattle.bits.specs.steps.Held.{words_in}
-use Rattle.bits.specs.steps.RowParts.{IsWithin}
-use Rattle.bits.specs.steps.SlotWords.{IsMovedInto}
-use Rattle.bits.specs.steps.StoredRows.{row_of, kept_at, part_count, parts, IsKept, IsOwned, AreStored, IsFreed, owners_after}
-use Rattle.bits.proofs.laws.StoredLaws.{kept_whole, set_here, set_there, parts_set, each_set, part_no_whole, room_stays, shown, shown_at, shown_size}
-use Rattle.bits.proofs.laws.RowsLaws.{slots_in_order}
-use Rattle.bits.proofs.laws.SlotCallLaws.{Holds}
-use Rattle.bits.proofs.laws.WholeLaws.{IsMovedIn}
+use Rattle.bits.specs.steps.Held.{words_in, IsMovedInto}
+use Rattle.bits.specs.steps.StoredRows.{IsWithin, row_of, kept_at, part_count, parts, IsKept, IsOwned, AreStored, IsFreed, owners_after}
+use Rattle.bits.proofs.laws.StoredLaws.{kept_whole, set_here, set_there, parts_set, each_set, part_no_whole, room_stays, shown, shown_at, shown_size, Holds}
+use Rattle.bits.proofs.laws.RowsLaws.{slots_in_order, IsMovedIn}
 
 wholes_apart : (ks : List Kept) (s t i j : ℕ) → kept_at ks s ≡ kept.Whole i → kept_at ks t ≡ kept.Whole j → j ≢ i → t ≢ s
 wholes_apart ks s t i j a b ne e =

@@ -1,18 +1,22 @@
--- Rows of equally many bits in one list of words: what a change of one row leaves of the others.
-use Rattle.std.proofs.Common.{append_assoc, ◌≡◌, ◌≢◌, inl, inr, ℕ, suc, ◌+◌, ◌-◌, ◌*◌, ◌^◌, ◌<◌, ◌≤◌, Bool, false, List, [], ◌++◌, length, take, drop, get_or, refl, sym, ◌∙◌, ap, arith, subst, map}
+-- Rows of one length in one list of words: a row written, moved or taken out, and what that leaves of the others.
+use Rattle.std.proofs.Common.{append_assoc, ◌≡◌, ◌≢◌, inl, inr, ℕ, suc, ◌+◌, ◌-◌, ◌*◌, ◌^◌, ◌<◌, ◌≤◌, Bool, false, List, [], ◌++◌, length, take, drop, get_or, refl, sym, ◌∙◌, ap, arith, subst, map, zero, ◌∷◌, append-nil, ◌/◌, ◌%◌}
 use Rattle.std.proofs.Math.ListN.{set}
 use Rattle.std.proofs.Math.Seq.{take-set-lt}
 use Rattle.std.proofs.lemmas.Nat.{mul-le}
 use Rattle.std.proofs.lemmas.Bool.{cases_lt, cases_eq}
-use Rattle.std.proofs.lemmas.List.{get_or_default, length-take-le, length-drop, length-set, length-append, get_or-take, get_or-drop, get_or-set_other, same_lists, drop-set-add, get_or_append_left, get_or-append_right, take_at, drop_at, get_or-map, length-map, take-append-le, drop-append-le, drop-drop}
+use Rattle.std.proofs.lemmas.List.{get_or_default, length-take-le, length-drop, length-set, length-append, get_or-take, get_or-drop, get_or-set_other, same_lists, drop-set-add, get_or_append_left, get_or-append_right, take_at, drop_at, get_or-map, length-map, take-append-le, drop-append-le, drop-drop, take-append-drop, take-take, drop-take, nil_from_length, take_all}
 use Rattle.std.specs.Int.{div_ceil}
 use Rattle.std.proofs.lemmas.List.Elements.{All-same, All-take}
-use Rattle.bits.specs.steps.Packing.{all_bits, IsPacked}
-use Rattle.bits.proofs.laws.WordLaws.{length-all_bits, all_bits-cut}
-use Rattle.bits.specs.steps.Held.{words_in, bits_in, IsPadded, AreHeld}
+use Rattle.std.specs.List.{concat}
+use Rattle.bits.specs.steps.Packing.{all_bits, IsPacked, word_bits}
+use Rattle.bits.specs.steps.Held.{words_in, bits_in, IsPadded, AreHeld, Writes}
 use Rattle.bits.specs.Rows.{RowsAndRoom}
-use Rattle.bits.proofs.laws.PaddedLaws.{front_size}
+use Rattle.bits.specs.steps.StoredRows.{IsRowChanged}
+use Rattle.bits.proofs.laws.BitLaws.{length-all_bits, all_bits-cut}
+use Rattle.bits.proofs.laws.RowLaws.{front_size, set_whole}
 use Rattle.bits.proofs.laws.SlotLaws.{below_at}
+
+-- ---- Rows of equally many bits in one list of words: what a change of one row leaves of the others.
 
 -- a slot's words end where the next slot's begin
 pub slots_in_order : (w s t : ℕ) → s < t → s * w + w ≤ t * w
@@ -229,3 +233,110 @@ pub row_len : (len w : ℕ) (slots ws : List ℕ) (shown : RowsAndRoom) (k : ℕ
 row_len len w slots ws shown k h v lt =
     let there : k < length slots = row_there len w slots ws shown k v lt in
     row_size len w slots ws shown k (get_or slots k 0) h v there (get_or_default slots k 0 (get_or slots k 0) there)
+
+-- ---- Rows of one length, one after another in a list of words.
+
+-- each row has so many words
+abbrev pub AreLong : ℕ → List (List ℕ) → Type 0
+AreLong w rows = (s : ℕ) → s < length rows → length (get_or rows s []) ≡ w
+
+long_rest : (w : ℕ) (row : List ℕ) (rows : List (List ℕ)) → AreLong w (row ∷ rows) → AreLong w rows
+long_rest w row rows h s lt = h (suc s) (omega arith)
+
+pub length-concat : (w : ℕ) (rows : List (List ℕ)) → AreLong w rows → length (concat rows) ≡ length rows * w
+length-concat w [] h = omega arith
+length-concat w (row ∷ rows) h =
+    let e : suc (length rows) * w ≡ length rows * w + w = omega arith in
+    omega (arith, length-append row (concat rows), h 0 (omega arith), length-concat w rows (long_rest w row rows h), e)
+
+pub concat_push : (rows : List (List ℕ)) (row : List ℕ) → concat (rows ++ row ∷ []) ≡ concat rows ++ row
+concat_push [] row = append-nil row
+concat_push (r ∷ rows) row = ap (λ (ws : List ℕ). r ++ ws) (concat_push rows row) ∙ sym (append_assoc r (concat rows) row)
+
+-- a slot after the first w words is one fewer after them
+words_in_rest : (w s : ℕ) (ws : List ℕ) → words_in w (drop w ws) s ≡ words_in w ws (suc s)
+words_in_rest w s ws = let e : w + s * w ≡ suc s * w = omega arith in ap (λ (us : List ℕ). take w us) (drop-drop (s * w) w ws ∙ ap (λ k. drop k ws) e)
+
+pub words_in-concat : (w s : ℕ) (rows : List (List ℕ)) → AreLong w rows → s < length rows → words_in w (concat rows) s ≡ get_or rows s []
+words_in-concat w s [] h lt = absurd (omega arith)
+words_in-concat w zero (row ∷ rows) h lt =
+    let e : 0 * w ≡ 0 = omega arith in
+    ap (λ k. take w (drop k (row ++ concat rows))) e ∙ take_at row (concat rows) w (h 0 (omega arith))
+words_in-concat w (suc s) (row ∷ rows) h lt =
+    sym (words_in_rest w s (row ++ concat rows)) ∙ ap (λ (us : List ℕ). words_in w us s) (drop_at row (concat rows) w (h 0 (omega arith))) ∙ words_in-concat w s rows (long_rest w row rows h) (omega arith)
+
+-- words are equal where they are so in each slot
+same_words : (w n : ℕ) (us vs : List ℕ) → length us ≡ n * w → length vs ≡ n * w → ((s : ℕ) → s < n → words_in w us s ≡ words_in w vs s) → us ≡ vs
+same_words w zero us vs a b same =
+    let e : 0 * w ≡ 0 = omega arith in
+    nil_from_length us (a ∙ e) ∙ sym (nil_from_length vs (b ∙ e))
+same_words w (suc n) us vs a b same =
+    let e : 0 * w ≡ 0 = omega arith in
+    let more : suc n * w ≡ w + n * w = omega arith in
+    let front : take w us ≡ take w vs = ap (λ k. take w (drop k us)) (sym e) ∙ same 0 (omega arith) ∙ ap (λ k. take w (drop k vs)) e in
+    let rest : drop w us ≡ drop w vs =
+    same_words w n (drop w us) (drop w vs) (omega (arith, length-drop w us)) (omega (arith, length-drop w vs)) (λ s lt. words_in_rest w s us ∙ same (suc s) (omega arith) ∙ sym (words_in_rest w s vs)) in
+    sym (take-append-drop w us) ∙ (λ i. front i ++ rest i) ∙ take-append-drop w vs
+
+-- a slot of the first n
+pub words_in-take : (w n s : ℕ) (ws : List ℕ) → s < n → words_in w (take (n * w) ws) s ≡ words_in w ws s
+words_in-take w n s ws lt =
+    let o : s * w + w ≤ n * w = slots_in_order w s n lt in
+    let e : s * w + (n * w - s * w) ≡ n * w = omega (arith, o) in
+    ap (λ k. take w (drop (s * w) (take k ws))) (sym e) ∙ ap (λ (us : List ℕ). take w us) (drop-take (s * w) (n * w - s * w) ws) ∙ take-take w (n * w - s * w) (drop (s * w) ws) (omega (arith, o))
+
+-- a slot of words that others follow
+pub words_in-append : (w n s : ℕ) (ws us : List ℕ) → length ws ≡ n * w → s < n → words_in w (ws ++ us) s ≡ words_in w ws s
+words_in-append w n s ws us size lt =
+    let o : s * w + w ≤ n * w = slots_in_order w s n lt in
+    ap (λ (vs : List ℕ). take w vs) (drop-append-le (s * w) ws us (omega (arith, o))) ∙ take-append-le w (drop (s * w) ws) us (omega (arith, o, length-drop (s * w) ws))
+
+-- the slot of words that follow others
+pub words_in_push : (w n : ℕ) (ws row : List ℕ) → length ws ≡ n * w → length row ≡ w → words_in w (ws ++ row) n ≡ row
+words_in_push w n ws row size long = ap (λ (vs : List ℕ). take w vs) (drop_at ws row (n * w) size) ∙ take_all w row (omega arith)
+
+-- words cut off after a slot, so many of the first ones left
+pub cut_more : (w n m : ℕ) (first now new : List ℕ) → m ≤ n → n * w ≤ length first → now ≡ take (n * w) first → length new ≡ m * w → ((s : ℕ) → s < m → words_in w new s ≡ words_in w now s) → new ≡ take (m * w) first
+cut_more w n m first now new le long is size same =
+    let o : m * w ≤ n * w = mul-le m w n w le (omega arith) in
+    same_words w m new (take (m * w) first) size (length-take-le (m * w) first (omega (arith, o, long))) (λ s lt.
+    same s lt ∙ ap (λ (ws : List ℕ). words_in w ws s) is ∙ words_in-take w n s first (omega (arith, lt, le)) ∙ sym (words_in-take w m s first lt))
+
+-- ---- Rows whose words are all stored: one written, or moved, or taken out.
+
+pub bit_written_in : (w n i at v word : ℕ) (b : Bool) (ws : List ℕ) → length ws ≡ n * w → i < n → at < 64 * w → word ≡ get_or ws (i * w + at / 64) word → word_bits 64 v ≡ set (word_bits 64 word) (at % 64) b
+    → IsRowChanged (Writes at b) w n i ws (set ws (i * w + at / 64) v)
+bit_written_in w n i at v word b ws size lt in' read bits =
+    let q : at / 64 < w = omega arith in
+    let long : length (words_in w ws i) ≡ w = length-words_in w n i ws size lt in
+    record {
+      as_long = length-set ws (i * w + at / 64) v;
+      changed = ap all_bits (word_set_here w i (at / 64) v ws q) ∙ set_whole (words_in w ws i) at v word b (omega arith) (read ∙ sym (word_in w i (at / 64) word ws q)) bits;
+      others = λ j below ne. word_set_other w n i j (at / 64) v ws size lt below ne q;
+    }
+
+pub row_changed_by : (R : List ℕ → List ℕ → Type 0) (w n i : ℕ) (row ws us : List ℕ) → length ws ≡ n * w → i < n → length row ≡ w → IsRowWritten w i row ws us → R (words_in w ws i) row → IsRowChanged R w n i ws us
+row_changed_by R w n i row ws us size lt long is r =
+    let P : List ℕ → Type 0 = λ vs. R (words_in w ws i) vs in
+    record {
+      as_long = row_written_size w n i row ws us size lt long is;
+      changed = subst P (sym (row_written_here w n i row ws us size lt long is)) r;
+      others = λ j below ne. row_written_other w n i j row ws us size lt below long ne is;
+    }
+
+-- the last row has come in the place of one
+pub record IsMovedIn (w last i : ℕ) (ws us : List ℕ) : Type 0 where
+  pub long : length us ≡ last * w
+  pub moved : i < last → words_in w us i ≡ words_in w ws last
+  pub others : (j : ℕ) → j < last → j ≢ i → words_in w us j ≡ words_in w ws j
+
+pub last_moved_in : (w last i : ℕ) (ws us : List ℕ) → length ws ≡ (last + 1) * w → i < last + 1 → IsRowWritten w i (words_in w ws last) ws us → IsMovedIn w last i ws (take (last * w) us)
+last_moved_in w last i ws us size lt is =
+    let n : ℕ = last + 1 in
+    let long : length (words_in w ws last) ≡ w = length-words_in w n last ws size (omega arith) in
+    let more : n * w ≡ last * w + w = omega arith in
+    record {
+      long = length-take-le (last * w) us (omega (arith, row_written_size w n i (words_in w ws last) ws us size lt long is));
+      moved = λ below. words_in-take w last i us below ∙ row_written_here w n i (words_in w ws last) ws us size lt long is;
+      others = λ j below ne. words_in-take w last j us below ∙ row_written_other w n i j (words_in w ws last) ws us size lt (omega arith) long ne is;
+    }

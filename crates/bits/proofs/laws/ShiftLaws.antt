@@ -9,15 +9,12 @@ use Rattle.std.specs.Int.{bit_at}
 use Rattle.std.specs.Prelude.{bit_and}
 use Rattle.std.proofs.lemmas.Nat.{one_shl}
 use Rattle.std.proofs.lemmas.Nat.Bits.{bit_at_and, bit_at_ones, bit_at-zero}
-use Rattle.bits.specs.steps.First.{Nowhere}
+use Rattle.bits.specs.steps.Summaries.{Nowhere, HasPair, IsMarked, IsSummaryOf, IsBlank, HidesNoWord, StayBlank}
 use Rattle.bits.specs.declared.sparse.Way.{Way}
 use Rattle.bits.specs.declared.sparse.Way.TheVariants as way
-use Rattle.bits.specs.steps.Shifts.{Shifts}
+use Rattle.bits.specs.steps.Held.{Shifts}
 use Rattle.bits.specs.steps.Packing.{low_bit, word_bits, all_bits}
-use Rattle.bits.specs.steps.Summaries.{HasPair, IsMarked, IsSummaryOf, IsBlank, HidesNoWord, StayBlank}
-use Rattle.bits.proofs.laws.BitLaws.{length-word_bits}
-use Rattle.bits.proofs.laws.GetLaws.{word_bit_at, all_bit_at}
-use Rattle.bits.proofs.laws.WordLaws.{all_bits-append, length-all_bits, all_bits-cut, all_bits-one, word_first, Carried, carried_first, carried_more}
+use Rattle.bits.proofs.laws.BitLaws.{length-word_bits, word_bit_at, all_bit_at, all_bits-append, length-all_bits, all_bits-cut, all_bits-one, word_first, Carried, carried_first, carried_more}
 
 abbrev AreOff : List Bool → Type 0
 AreOff bits = All (λ (b : Bool). b ≡ false) bits

@@ -1,15 +1,128 @@
--- Rows that one more turns: what an edit of the rows that are kept is to those that are seen.
-use Rattle.std.proofs.Common.{◌≡◌, ℕ, zero, suc, ◌+◌, ◌<◌, Bool, false, not, List, [], ◌∷◌, length, get_or, refl, sym, ◌∙◌, ap, arith, subst, map, All}
-use Rattle.std.proofs.Math.Bool.{xor}
-use Rattle.std.specs.List.{AllByRecursion, insert, remove}
+-- Rows that one more turns: what an edit of the rows that are kept is to those that are seen, and how they are lent.
+use Rattle.std.proofs.Common.{◌≡◌, ℕ, zero, suc, ◌<◌, Bool, true, false, not, List, [], ◌∷◌, length, take, get_or, refl, sym, ◌∙◌, ap, arith, ◌+◌, subst, map, All, inl, inr, ◌⊎◌, ◌/◌, ◌%◌}
+use Rattle.std.specs.Prelude.{bit_or}
+use Rattle.std.proofs.Math.Bool.{xor, beq}
+use Rattle.std.specs.List.{insert, remove, AllByRecursion}
 use Rattle.std.proofs.Math.ListN.{set}
 use Rattle.std.proofs.lemmas.List.{length-map, length-set, get_or_default}
-use Rattle.bits.specs.MarginRows.{RowsInRoom}
+use Rattle.std.proofs.lemmas.Bool.{false≢true}
+use Rattle.std.proofs.lemmas.Nat.Bits.{bit_at_or}
+use Rattle.bits.specs.MarginRows.{after_margin, RowsInRoom}
 use Rattle.bits.specs.TurnedRows.{turned, turned_rows, AreAsLong}
-use Rattle.bits.proofs.laws.TurnLaws.{length-turned, get-turned, set-turned, turned_at, insert-turned, remove-turned}
+use Rattle.bits.specs.steps.Packing.{all_bits, IsPacked}
+use Rattle.bits.specs.steps.Summaries.{IsMarked, IsSummaryOf}
+use Rattle.bits.proofs.laws.MarginLaws.{length-after}
+
+-- ---- A row that another turns: what an edit of both is to the row that is seen.
 
 abbrev Row : Type 0
 Row = List Bool
+
+-- ---- a bit that another turns
+
+-- it is one where they differ
+pub differ : (a b : Bool) → not (beq a b) ≡ xor a b
+unfolding xor
+differ a b = refl
+
+xor_none : (b : Bool) → xor false b ≡ b
+unfolding xor
+xor_none true = refl
+xor_none false = refl
+
+xor_twice : (t b : Bool) → xor t (xor t b) ≡ b
+unfolding xor
+xor_twice true true = refl
+xor_twice true false = refl
+xor_twice false true = refl
+xor_twice false false = refl
+
+-- bits that are equal once they are turned are so before
+pub same_bit : (t a b : Bool) → xor t a ≡ xor t b → a ≡ b
+same_bit t a b e = sym (xor_twice t a) ∙ ap (λ c. xor t c) e ∙ xor_twice t b
+
+xor_not : (t b : Bool) → xor (not t) b ≡ not (xor t b)
+unfolding xor
+xor_not true true = refl
+xor_not true false = refl
+xor_not false true = refl
+xor_not false false = refl
+
+-- ---- a row
+
+pub length-turned : (turn own : Row) → length (turned turn own) ≡ length own
+length-turned turn [] = refl
+length-turned [] (b ∷ own) = ap suc (length-turned [] own)
+length-turned (t ∷ turn) (b ∷ own) = ap suc (length-turned turn own)
+
+turned_by_none : (own : Row) → turned [] own ≡ own
+turned_by_none [] = refl
+turned_by_none (b ∷ own) = ap (λ (bs : Row). b ∷ bs) (turned_by_none own)
+
+pub turned_twice : (turn own : Row) → turned turn (turned turn own) ≡ own
+turned_twice turn [] = refl
+turned_twice [] (b ∷ own) = ap (λ (bs : Row). b ∷ bs) (turned_twice [] own)
+turned_twice (t ∷ turn) (b ∷ own) = (λ i. xor_twice t b i ∷ turned_twice turn own i)
+
+-- rows that are equal once they are turned are so before
+pub same-turned : (turn one other : Row) → turned turn one ≡ turned turn other → one ≡ other
+same-turned turn one other e = sym (turned_twice turn one) ∙ ap (λ (bs : Row). turned turn bs) e ∙ turned_twice turn other
+
+pub get-turned : (turn own : Row) (at : ℕ) → at < length own → get_or (turned turn own) at false ≡ xor (get_or turn at false) (get_or own at false)
+get-turned turn [] at lt = absurd (omega arith)
+get-turned [] (b ∷ own) zero lt = sym (xor_none b)
+get-turned [] (b ∷ own) (suc at) lt = get-turned [] own at (omega arith)
+get-turned (t ∷ turn) (b ∷ own) zero lt = refl
+get-turned (t ∷ turn) (b ∷ own) (suc at) lt = get-turned turn own at (omega arith)
+
+-- a bit that is to stand in the row is written turned
+pub set-turned : (turn own : Row) (at : ℕ) (b : Bool) → turned turn (set own at (xor (get_or turn at false) b)) ≡ set (turned turn own) at b
+set-turned turn [] at b = refl
+set-turned [] (o ∷ own) zero b = ap (λ c. c ∷ turned [] own) (xor_none b)
+set-turned [] (o ∷ own) (suc at) b = ap (λ (bs : Row). o ∷ bs) (set-turned [] own at b)
+set-turned (t ∷ turn) (o ∷ own) zero b = ap (λ c. c ∷ turned turn own) (xor_twice t b)
+set-turned (t ∷ turn) (o ∷ own) (suc at) b = ap (λ (bs : Row). xor t o ∷ bs) (set-turned turn own at b)
+
+-- a bit of the row that turns it is turned
+pub turned_at : (turn own : Row) (at : ℕ) → length own ≡ length turn
+    → turned (set turn at (not (get_or turn at false))) own ≡ set (turned turn own) at (not (get_or (turned turn own) at false))
+turned_at [] [] at e = refl
+turned_at [] (o ∷ own) at e = absurd (omega arith)
+turned_at (t ∷ turn) [] at e = refl
+turned_at (t ∷ turn) (o ∷ own) zero e = ap (λ c. c ∷ turned turn own) (xor_not t o)
+turned_at (t ∷ turn) (o ∷ own) (suc at) e = ap (λ (bs : Row). xor t o ∷ bs) (turned_at turn own at (omega arith))
+
+-- a 0 put into both
+pub insert-turned : (turn own : Row) (at : ℕ) → length own ≡ length turn → turned (insert turn at false) (insert own at false) ≡ insert (turned turn own) at false
+insert-turned [] [] zero e = ap (λ c. c ∷ []) (xor_none false)
+insert-turned [] [] (suc at) e = ap (λ c. c ∷ []) (xor_none false)
+insert-turned [] (o ∷ own) at e = absurd (omega arith)
+insert-turned (t ∷ turn) [] at e = absurd (omega arith)
+insert-turned (t ∷ turn) (o ∷ own) zero e = ap (λ c. c ∷ turned (t ∷ turn) (o ∷ own)) (xor_none false)
+insert-turned (t ∷ turn) (o ∷ own) (suc at) e = ap (λ (bs : Row). xor t o ∷ bs) (insert-turned turn own at (omega arith))
+
+-- a bit taken out of both
+pub remove-turned : (turn own : Row) (at : ℕ) → length own ≡ length turn → turned (remove turn at) (remove own at) ≡ remove (turned turn own) at
+remove-turned [] [] zero e = refl
+remove-turned [] [] (suc at) e = refl
+remove-turned [] (o ∷ own) at e = absurd (omega arith)
+remove-turned (t ∷ turn) [] at e = absurd (omega arith)
+remove-turned (t ∷ turn) (o ∷ own) zero e = refl
+remove-turned (t ∷ turn) (o ∷ own) (suc at) e = ap (λ (bs : Row). xor t o ∷ bs) (remove-turned turn own at (omega arith))
+
+-- both after a margin
+pub after-turned : (m : ℕ) (turn own : Row) → turned (after_margin m turn) (after_margin m own) ≡ after_margin m (turned turn own)
+after-turned zero turn own = refl
+after-turned (suc m) turn own = (λ i. xor_none false i ∷ after-turned m turn own i)
+
+-- the first bits of both
+pub take-turned : (n : ℕ) (turn own : Row) → take n (turned turn own) ≡ turned (take n turn) (take n own)
+take-turned zero turn own = refl
+take-turned (suc n) turn [] = refl
+take-turned (suc n) [] (b ∷ own) = ap (λ (bs : Row). b ∷ bs) (ap (take n) (turned_by_none own) ∙ sym (turned_by_none (take n own)))
+take-turned (suc n) (t ∷ turn) (b ∷ own) = ap (λ (bs : Row). xor t b ∷ bs) (take-turned n turn own)
+
+-- ---- Rows that one more turns: what an edit of the rows that are kept is to those that are seen.
 
 -- the row that turns the others
 abbrev pub turn_of : List Row → Row
@@ -254,3 +367,51 @@ removed_seen kept shown k j s is = by_turning (λ rs. IsSeen (remove kept j) (re
     go (t ∷ own) h e =
         let P : ℕ → Type 0 = λ i. IsSeen (remove (t ∷ own) i) (remove (map (turned t) own) k) in
         subst P (sym e) (record { alike = all_removed (length t) own k h; seen = map-removed t own k })
+
+-- ---- A row that another turns, as both are lent: their words, and the summaries of both in one.
+
+as_long_after : (m n : ℕ) (one other : Row) → m ≡ n → length one ≡ length other → length (after_margin m one) ≡ length (after_margin n other)
+as_long_after m n one other same e = omega (arith, same, e, length-after m one, length-after n other)
+
+-- words that hold a row after its margin hold any row that is as long
+pub lent_packed : (m n : ℕ) (one other : Row) (ws : List ℕ) → m ≡ n → length one ≡ length other → IsPacked ws (length (after_margin m one)) → IsPacked ws (length (after_margin n other))
+lent_packed m n one other ws same e = subst (IsPacked ws) (as_long_after m n one other same e)
+
+-- the bits of two rows' words, as far as the rows go, are the row that one of them turns
+pub lent_bits : (m n : ℕ) (turn own row : Row) (ts ws : List ℕ) → m ≡ n → length own ≡ length row → length turn ≡ length row → row ≡ turned turn own
+    → take (length (after_margin m turn)) (all_bits ts) ≡ after_margin m turn → take (length (after_margin m own)) (all_bits ws) ≡ after_margin m own
+    → take (length (after_margin n row)) (turned (all_bits ts) (all_bits ws)) ≡ after_margin n row
+lent_bits m n turn own row ts ws same long e is turns owns =
+    let k : ℕ = length (after_margin n row) in
+    let one : take k (all_bits ts) ≡ after_margin m turn = ap (λ j. take j (all_bits ts)) (sym (as_long_after m n turn row same e)) ∙ turns in
+    let two : take k (all_bits ws) ≡ after_margin m own = ap (λ j. take j (all_bits ws)) (sym (as_long_after m n own row same long)) ∙ owns in
+    take-turned k (all_bits ts) (all_bits ws) ∙ (λ i. turned (one i) (two i)) ∙ after-turned m turn own ∙ (λ i. after_margin (same i) (sym is i))
+
+either_bit : (t b : Bool) → xor t b ≡ true → (t ≡ true) ⊎ (b ≡ true)
+unfolding xor
+either_bit true b e = inl refl
+either_bit false true e = inr refl
+either_bit false false e = absurd (false≢true e)
+
+-- a bit that a turned row has is one of the two rows'
+either_row : (turn own : Row) (p : ℕ) → get_or (turned turn own) p false ≡ true → (get_or turn p false ≡ true) ⊎ (get_or own p false ≡ true)
+either_row turn [] p e = absurd (false≢true e)
+either_row [] (b ∷ own) zero e = inr e
+either_row [] (b ∷ own) (suc p) e = elim (either_row [] own p e) [ inl h ↦ absurd (false≢true h) | inr h ↦ inr h ]
+either_row (t ∷ turn) (b ∷ own) zero e = either_bit t b e
+either_row (t ∷ turn) (b ∷ own) (suc p) e = either_row turn own p e
+
+low_marked : (s u word : ℕ) → IsMarked s word → IsMarked (bit_or s u) word
+low_marked s u word h = omega (arith, bit_at_or s u (word / 2 % 64), h)
+
+high_marked : (s u word : ℕ) → IsMarked u word → IsMarked (bit_or s u) word
+high_marked s u word h = omega (arith, bit_at_or s u (word / 2 % 64), h)
+
+-- the summaries of both rows in one are a summary of the turned row
+pub lent_summed : (m n : ℕ) (turn own row : Row) (s u : ℕ) → m ≡ n → row ≡ turned turn own → IsSummaryOf s (after_margin m own) → IsSummaryOf u (after_margin m turn) → IsSummaryOf (bit_or s u) (after_margin n row)
+lent_summed m n turn own row s u same is owns turns p on =
+    let both : turned (after_margin m turn) (after_margin m own) ≡ after_margin n row = after-turned m turn own ∙ (λ i. after_margin (same i) (sym is i)) in
+    elim (either_row (after_margin m turn) (after_margin m own) p (ap (λ (bs : Row). get_or bs p false) both ∙ on)) [
+      | inl h ↦ high_marked s u (p / 64) (turns p h)
+      | inr h ↦ low_marked s u (p / 64) (owns p h)
+    ]

@@ -11,10 +11,9 @@ use Rattle.std.proofs.lemmas.List.Elements.{All-append, All-replicate, All-same,
 use Rattle.std.proofs.lemmas.Nat.Bits.{bit_at_or, bit_at-lt, bit_at-suc, bit_at_lowest, bit_at_cat_low, bit_at_cat_high}
 use Rattle.bits.specs.Rows.{two_words}
 use Rattle.bits.specs.steps.Packing.{word_bits, all_bits}
-use Rattle.bits.specs.steps.Held.{words_in, bits_in, IsPadded, AreHeld, EachSlot}
-use Rattle.bits.specs.steps.RowMoves.{TakesWordsIn, GivesWordsUp}
+use Rattle.bits.specs.steps.Held.{words_in, bits_in, IsPadded, AreHeld, EachSlot, TakesWordsIn, GivesWordsUp}
 use Rattle.bits.specs.steps.Summaries.{HasPair, IsSummaryOf}
-use Rattle.bits.proofs.laws.WordLaws.{all_bits-append, all_bits-cut, length-all_bits}
+use Rattle.bits.proofs.laws.BitLaws.{all_bits-append, all_bits-cut, length-all_bits}
 use Rattle.bits.proofs.laws.RowsLaws.{length-words_in, covers_row}
 use Rattle.bits.proofs.laws.SlotLaws.{all_mapped}
 

@@ -1,11 +1,34 @@
--- Rows of words as they are stored: of most rows a part, where all other words are blank; and some rows whole.
-use Rattle.std.specs.Prelude.{◌≡◌, ◌≢◌, ℕ, ◌+◌, ◌*◌, ◌^◌, ◌<◌, ◌≤◌, List, [], ◌∷◌, length, map, slice_index, slice_index_or, slice_set}
+-- Rows of words as they are stored and lent: of most rows a part, where all other words are blank; and some rows whole.
+use Rattle.std.specs.Prelude.{ℕ, List, ◌++◌, take, replicate, ◌≡◌, ◌+◌, ◌-◌, ◌<◌, ◌≤◌, length, ◌≢◌, ◌*◌, ◌^◌, [], ◌∷◌, map, slice_index, slice_index_or, slice_set}
 use Rattle.std.specs.List.{concat}
-use Rattle.bits.specs.declared.whole_rows.Kept.{Kept}
-use Rattle.bits.specs.declared.whole_rows.Kept.TheVariants as kept
+use Rattle.bits.specs.declared.row_words.RowWords.{RowWords}
 use Rattle.bits.specs.declared.row_part.RowPart.{RowPart}
+use Rattle.bits.specs.declared.whole_rows.Kept.{Kept}
 use Rattle.bits.specs.steps.Held.{words_in}
-use Rattle.bits.specs.steps.RowParts.{part_row, IsWithin}
+use Rattle.bits.specs.declared.whole_rows.Kept.TheVariants as kept
+
+-- ---- The words of a row as they are lent: a part of them, with blank words before and after it.
+
+-- all words of a row: those before its part, the part, and as many after it as there are in all
+abbrev pub words_of : RowWords → List ℕ
+words_of row = take row.count (replicate row.start 0 ++ row.kept.now ++ replicate row.count 0)
+
+-- ---- A part of a row: four of its words, where all others are blank.
+
+-- the words of the row: blank ones, those of the part, and blank ones up to its width
+abbrev pub part_row : ℕ → RowPart → List ℕ
+part_row width part = replicate part.start 0 ++ part.words ++ replicate (width - (part.start + 4)) 0
+
+-- four words within a row
+pub record IsWithin (width : ℕ) (part : RowPart) : Type 0 where
+  pub four : length part.words ≡ 4
+  pub ends : part.start + 4 ≤ width
+
+-- the part has the word at this place
+abbrev pub HasWord : ℕ → RowPart → Type 0
+HasWord place part = (part.start ≤ place) × (place < part.start + 4)
+
+-- ---- Rows of words as they are stored: of most rows a part, where all other words are blank; and some rows whole.
 
 -- the words of a row, where the whole rows are stored one after another
 abbrev pub row_of : ℕ → List ℕ → Kept → List ℕ

@@ -1,8 +1,24 @@
--- Summaries of rows: which of a row's words a search may pass over.
-use Rattle.std.specs.Prelude.{◌≡◌, ℕ, ◌+◌, ◌*◌, count_ones, ◌/◌, ◌%◌, ◌<◌, ◌≤◌, Bool, false, true, List, length, slice_index, slice_index_or, All}
+-- Summaries of rows: the first place at which something holds, and which of a row's words a search may pass over.
+use Rattle.std.specs.Prelude.{ℕ, ◌<◌, ◌≤◌, Option, MatchOption, ◌≡◌, ◌+◌, ◌*◌, count_ones, ◌/◌, ◌%◌, Bool, false, true, List, length, slice_index, slice_index_or, All}
 use Rattle.std.specs.Int.{bit_at}
 use Rattle.bits.specs.steps.Packing.{all_bits, word_bits, low_bit}
 use Rattle.bits.specs.steps.Held.{words_in}
+
+-- ---- The first place at which something holds.
+
+-- P holds nowhere from one place up to another
+abbrev pub Nowhere : (ℕ → Type 0) → ℕ → ℕ → Type 0
+Nowhere P from to = (k : ℕ) → from ≤ k → k < to → P k → ⊥
+
+-- the first place, from one up to another, at which P holds
+abbrev pub IsFirst : (ℕ → Type 0) → ℕ → ℕ → Option ℕ → Type 0
+IsFirst P from to first = MatchOption first (Nowhere P from to) (λ n. (from ≤ n) × (n < to) × P n × Nowhere P from n)
+
+-- the first place, from one on, at which P holds
+abbrev pub FromOn : (ℕ → Type 0) → ℕ → Option ℕ → Type 0
+FromOn P from first = MatchOption first ((k : ℕ) → from ≤ k → P k → ⊥) (λ n. (from ≤ n) × P n × Nowhere P from n)
+
+-- ---- Summaries of rows: which of a row's words a search may pass over.
 
 -- a summary has the bit of this pair of words; pairs that are 64 apart share a bit
 abbrev pub HasPair : ℕ → ℕ → Type 0

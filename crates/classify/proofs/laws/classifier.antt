@@ -1,5 +1,3 @@
 pub mod ClassifierLaws
-pub mod MadeBoxes
-pub mod RoomLaws
 pub mod RuleLaws
 pub mod WholeLaws

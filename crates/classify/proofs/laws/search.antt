@@ -1,5 +1,3 @@
 pub mod CandidateLaws
 pub mod NextLaws
-pub mod PassLaws
 pub mod SearchLaws
-pub mod TurnedLaws

@@ -1,10 +1,11 @@
--- What the steps of an edit leave of a line.
+-- What the steps of an edit leave of a line, and a bit written into the rows of pieces side by side.
+use Rattle.std.specs.Prelude.{◌≡◌, ℕ, ◌+◌, ◌≤◌, Bool, List, [], length, insert, remove, slice_set, slice_index_or, ◌≢◌, ◌⊎◌, ◌<◌, suc, false, slice_index}
 use Rattle.fields.specs.declared.numbers.spans.Interval.{Interval}
-use Rattle.std.specs.Prelude.{◌≡◌, ℕ, ◌+◌, ◌≤◌, Bool, List, [], length, insert, remove, slice_set, slice_index_or, ◌≢◌, ◌⊎◌, ◌<◌, suc}
-use Rattle.std.specs.Prelude.{false}
 use Rattle.fields.specs.numbers.Spans.{has}
-use Rattle.classify.specs.line.Line.{row_at}
+use Rattle.classify.specs.Line.{row_at, starts}
 use Rattle.classify.specs.steps.Pieces.{IsRising, StartsAt, SayTheSame, Differ, row_in}
+
+-- ---- What the steps of an edit leave of a line.
 
 -- the piece, with an answer for its start inserted into its row
 abbrev pub with_test : ℕ → (ℕ → Bool) → ℕ × List Bool → ℕ × List Bool
@@ -72,3 +73,22 @@ abbrev pub KeepsApart : (ℕ × List Bool → ℕ × List Bool) → ℕ → List
 KeepsApart g at line =
     (j : ℕ) → suc j < length line → slice_index_or (row_of line j) at false ≡ slice_index_or (row_of line (suc j)) at false
     → (g (slice_index_or line j (0, []))).1 ≢ (g (slice_index_or line (suc j) (0, []))).1
+
+-- ---- Pieces side by side, and a bit written into their rows.
+
+-- the pieces that start in an interval are those from one place up to another
+pub record IsRunIn (s : Interval) (from to : ℕ) (line : List (ℕ × List Bool)) : Type 0 where
+  pub some : from < to
+  pub ends : to ≤ length line
+  pub start : slice_index (starts line) from ≡ s.first
+  pub below : (j : ℕ) → j < from → slice_index (starts line) j < s.first
+  pub low : (j : ℕ) → from ≤ j → j < length line → s.first ≤ slice_index (starts line) j
+  pub high : (j : ℕ) → j < to → slice_index (starts line) j ≤ s.last
+  pub above : (j : ℕ) → to ≤ j → j < length line → s.last < slice_index (starts line) j
+
+-- a bit stands at a place in the rows of the pieces from one up to another, and else all is as before
+pub record IsRunWritten (at : ℕ) (bit : Bool) (from to : ℕ) (old new : List (ℕ × List Bool)) : Type 0 where
+  pub as_long : length new ≡ length old
+  pub written : (j : ℕ) (d : ℕ × List Bool) → from ≤ j → j < to → slice_index_or new j d ≡ with_bit at (λ _. bit) (slice_index_or old j d)
+  pub before : (j : ℕ) (d : ℕ × List Bool) → j < from → slice_index_or new j d ≡ slice_index_or old j d
+  pub after : (j : ℕ) (d : ℕ × List Bool) → to ≤ j → slice_index_or new j d ≡ slice_index_or old j d

@@ -1,17 +1,15 @@
 -- The lines of all fields at once, each at its field's place.
-use Rattle.std.specs.Prelude.{◌≡◌, ℕ, ◌+◌, ◌*◌, ◌^◌, ◌-◌, ◌≤◌, ◌<◌, min, Bool, List, [], ◌∷◌, map, length, slice_index}
-use Rattle.std.specs.Prelude.{slice_index_or, slice_set, insert, remove}
+use Rattle.std.specs.Prelude.{◌≡◌, ℕ, ◌+◌, ◌*◌, ◌^◌, ◌-◌, ◌≤◌, ◌<◌, min, Bool, List, [], ◌∷◌, map, length, slice_index, slice_index_or, slice_set, insert, remove}
 use Rattle.bits.specs.MarginRows.{closed_up}
 use Rattle.bits.specs.Rows.{two_words}
 use Rattle.fields.specs.declared.numbers.field.TheConstants.{FIELDS}
 use Rattle.fields.specs.declared.numbers.spans.Interval.{Interval}
 use Rattle.fields.specs.numbers.Field.{all_fields, top}
 use Rattle.fields.specs.numbers.Spans.{SpanSet, has}
-use Rattle.classify.specs.classifier.Classifier.{Classified}
-use Rattle.classify.specs.line.Line.{IsLineOf}
-use Rattle.classify.specs.steps.Cuts.{CutsStart, IsApart}
+use Rattle.classify.specs.Classifier.{Classified}
+use Rattle.classify.specs.Line.{IsLineOf}
+use Rattle.classify.specs.steps.Pieces.{CutsStart, IsApart, IsRising, IsSplitOf, Differ, row_bits}
 use Rattle.classify.specs.steps.Edits.{IsMergeOf, Says}
-use Rattle.classify.specs.steps.Pieces.{IsRising, IsSplitOf, Differ, row_bits}
 use Rattle.classify.specs.steps.Kept.{PiecesAndRoom, IsSound}
 
 -- the cuts and rows of a line

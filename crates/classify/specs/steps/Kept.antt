@@ -1,9 +1,20 @@
--- A line as it is stored.
-use Rattle.std.specs.Prelude.{◌≡◌, ℕ, ◌+◌, ◌-◌, ◌^◌, ◌%◌, Bool, List, [], ◌∷◌, length, refl}
+-- A line as it is stored: where its pieces start, its rows, and whole lines, which a search leaves out.
+use Rattle.std.specs.Prelude.{ℕ, ◌+◌, ◌^◌, ◌≤◌, List, length, All, ◌≡◌, ◌-◌, ◌%◌, Bool, [], ◌∷◌, refl, ◌<◌, true, false, slice_index, slice_index_or}
 use Rattle.std.specs.Coded.{Coded, Coded-set, code_by, coded_ℕ, coded_bool, coded_list, coded×, ×_prop, Unit-prop, le_prop}
-use Rattle.classify.specs.steps.Pieces.{IsRising, IsRisingFrom, Differ, EachRow, row_bits}
 use Rattle.bits.specs.MarginRows.{Room}
 use base.Stored.{coded_sub}
+use Rattle.fields.specs.declared.numbers.field.TheConstants.{FIELDS}
+use Rattle.fields.specs.numbers.Spans.{SpanSet, has}
+use Rattle.classify.specs.steps.Pieces.{IsRising, IsRisingFrom, Differ, EachRow, row_bits}
+
+-- ---- Where pieces start, as they are kept: numbers in two parts.
+
+-- there are 2 to the 32 at most, and those of the second part need more than 32 bits
+pub record AreParted (narrow wide : List ℕ) : Type 0 where
+  pub few : length narrow + length wide ≤ 2 ^ 32
+  pub long : All (λ x. 2 ^ 32 ≤ x) wide
+
+-- ---- A line as it is stored.
 
 -- the greatest number that a piece may start at
 abbrev pub most_start : ℕ
@@ -33,11 +44,12 @@ pub record IsSound (top n : ℕ) (line : PiecesAndRoom) : Type 0 where
 equal_prop : (a b : ℕ) → IsProp (a ≡ b)
 equal_prop a b = Coded-set coded_ℕ a b
 
--- that pieces rise, after a number or from 0
+-- that pieces rise, after a number
 rising_from_prop : (top a : ℕ) (ps : List (ℕ × List Bool)) → IsProp (IsRisingFrom top a ps)
 rising_from_prop top a [] = Unit-prop
 rising_from_prop top a (p ∷ ps) = λ g h i. (le_prop g.0 h.0 i, le_prop g.1 h.1 i, rising_from_prop top p.0 ps g.2 h.2 i)
 
+-- that they rise from 0
 rising_prop : (top : ℕ) (line : List (ℕ × List Bool)) → IsProp (IsRising top line)
 rising_prop top [] = λ h _. absurd h
 rising_prop top (p ∷ ps) = ×_prop (equal_prop p.0 0) (rising_from_prop top 0 ps)
@@ -65,3 +77,34 @@ abbrev pub line_code : Coded PiecesAndRoom
 line_code =
     code_by ((d : List (ℕ × List Bool) × (ℕ × ℕ)) × IsLine d.0 d.1.0) (coded_sub data_code (λ d. IsLine d.0 d.1.0) (λ d. line_prop d.0 d.1.0)) (λ l. ((l.pieces, (l.room.places, l.room.before)), l.stands))
     (λ p. record { pieces = p.0.0; room = record { places = p.0.1.0; before = p.0.1.1 }; stands = p.1 }) (λ _. refl)
+
+-- ---- Whole lines, which a search leaves out.
+
+-- each row of a line has every bit
+abbrev pub IsWhole : PiecesAndRoom → Type 0
+IsWhole line = All (λ (p : ℕ × List Bool). All (λ (bit : Bool). bit ≡ true) p.1) line.pieces
+
+-- each line that is marked is whole
+abbrev pub AreMarked : List Bool → List PiecesAndRoom → Type 0
+AreMarked marks lines = (k : ℕ) (l : PiecesAndRoom) → k < length lines → slice_index_or marks k false ≡ true → IsWhole (slice_index_or lines k l)
+
+-- a number stands in a list
+abbrev pub IsAmong : List ℕ → ℕ → Type 0
+IsAmong numbers k = (i : ℕ) × (i < length numbers) × (slice_index numbers i ≡ k)
+
+-- places of lines, and among them that of each of the first lines that isn't marked
+pub record AreUnmarked (marks : List Bool) (upto : ℕ) (places : List ℕ) : Type 0 where
+  pub few : length places ≤ upto
+  pub fields : All (λ k. k < FIELDS) places
+  pub every : (k : ℕ) → k < upto → slice_index_or marks k false ≡ false → IsAmong places k
+
+-- places of lines, at least one, and among them that of each line that isn't marked
+pub record AreOthers (marks : List Bool) (places : List ℕ) : Type 0 where
+  pub some : 0 < length places
+  pub few : length places ≤ FIELDS
+  pub fields : All (λ k. k < FIELDS) places
+  pub every : (k : ℕ) → k < FIELDS → slice_index_or marks k false ≡ false → IsAmong places k
+
+-- a set has every number up to its top
+abbrev pub IsEverything : SpanSet → Type 0
+IsEverything s = (x : ℕ) → x ≤ s.top → has s.intervals x ≡ true

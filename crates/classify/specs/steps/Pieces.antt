@@ -1,7 +1,9 @@
--- What a line says of each number, whether or not it is the shortest that says so.
+-- What the pieces of a line say of each number, and where pieces start as a set of numbers begins and ends.
+use Rattle.std.specs.Prelude.{◌≡◌, ◌≢◌, ℕ, suc, ◌<◌, ◌≤◌, nat_le, Bool, List, [], ◌∷◌, if◌then◌else◌, ◌⊎◌, length, ◌+◌}
 use Rattle.fields.specs.declared.numbers.spans.Interval.{Interval}
 use Rattle.fields.specs.numbers.Spans.{has}
-use Rattle.std.specs.Prelude.{◌≡◌, ◌≢◌, ℕ, suc, ◌<◌, ◌≤◌, nat_le, Bool, List, [], ◌∷◌, if◌then◌else◌, ◌⊎◌, length}
+
+-- ---- What a line says of each number, whether or not it is the shortest that says so.
 
 -- the last piece that starts at or before x, and `first` where there is none
 abbrev pub piece_at : ℕ × List Bool → List (ℕ × List Bool) → ℕ → ℕ × List Bool
@@ -57,3 +59,21 @@ EachRow n (p ∷ ps) = (length p.1 ≡ n) × EachRow n ps
 abbrev pub row_bits : List (ℕ × List Bool) → ℕ
 row_bits [] = 0
 row_bits (p ∷ ps) = length p.1
+
+-- ---- Where a set of numbers begins and ends, and whether pieces start there.
+
+-- each number at which the set begins or ends is where a piece starts
+abbrev pub CutsStart : ℕ → List Interval → List (ℕ × List Bool) → Type 0
+CutsStart top spans line = (x : ℕ) → suc x ≤ top → has spans x ≢ has spans (suc x) → StartsAt (suc x) line
+
+-- a piece starts where the interval begins, and one after its end
+abbrev pub EndsStart : ℕ → List (ℕ × List Bool) → Interval → Type 0
+EndsStart top line s = StartsAt s.first line × (s.last < top → StartsAt (s.last + 1) line)
+
+-- the set begins or ends at a number
+abbrev pub ChangesAt : List Interval → ℕ → Type 0
+ChangesAt spans x = (y : ℕ) → suc y ≡ x → has spans y ≢ has spans (suc y)
+
+-- wherever a piece starts, the row changes, or the set begins or ends there
+abbrev pub IsApart : List Interval → List (ℕ × List Bool) → Type 0
+IsApart spans line = (y : ℕ) → StartsAt (suc y) line → (row_in line y ≢ row_in line (suc y)) ⊎ (has spans y ≢ has spans (suc y))

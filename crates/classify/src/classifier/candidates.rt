@@ -1,7 +1,7 @@
 //! The candidates at a point: the boxes that allow it, as a list of bits that is lent, and the search among them.
 
 ghost use Rattle.std.specs.Prelude.{◌≡◌};
-ghost use Rattle.classify.specs.search.NextMatch.{next_match};
+ghost use Rattle.classify.specs.NextMatch.{next_match};
 
 use crate::classifier::rows::{self, CandidateRows};
 use crate::line::owned::OwnedLine;
@@ -24,7 +24,7 @@ pub struct Candidates<'a> {
 impl<'a> Model for Candidates<'a> {
     ghost use Rattle.std.specs.Prelude.{Bool, List, map};
     ghost use Rattle.classify.specs.steps.Fields.{shown_line, IsKept};
-    ghost use Rattle.classify.specs.steps.Found.{in_common, rows_found, AreFound};
+    ghost use Rattle.classify.specs.steps.CommonPlaces.{in_common, rows_found, AreFound};
 
     ghost Value = { List Bool };
 

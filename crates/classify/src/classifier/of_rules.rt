@@ -1,9 +1,6 @@
 //! Laws of the classifier of rules: the contract of each is the law, and it does nothing.
 
-ghost use Rattle.classify.specs.classifier.Laws.{EachRuleHasABox, BoxesHaveTheRulesClassifier};
-ghost use Rattle.classify.specs.classifier.Laws.{BoxesHaveTheRulesMatches, RulesHaveOneClassifier};
-ghost use Rattle.classify.specs.classifier.Laws.{RulesHaveTheComputedLine, SameNumbersSameClassifier};
-ghost use Rattle.classify.specs.classifier.Laws.{RenamedOneSameClassifier, RenamedManySameClassifier};
+ghost use Rattle.classify.specs.Laws.{EachRuleHasABox, BoxesHaveTheRulesClassifier, BoxesHaveTheRulesMatches, RulesHaveOneClassifier, RulesHaveTheComputedLine, SameNumbersSameClassifier, RenamedOneSameClassifier, RenamedManySameClassifier};
 
 /// The law that every rule has a box; that the classifier of rules' boxes is the classifier of the rules; and that
 /// the next box that allows a point is that of the next rule that allows each of its numbers.
@@ -15,6 +12,7 @@ pub fn boxes_stand_for_their_rules()
 
 /// The law that rules have one classifier: two classifiers of the same rules have as many boxes, and the same line on
 /// each field.
+#[tactic(auto, using(crate::proofs::laws::classifier::RuleLaws::one_classifier))]
 pub fn rules_have_one_classifier()
     ensures { RulesHaveOneClassifier }
 {}

@@ -2,11 +2,9 @@
 
 ghost use Rattle.std.specs.Prelude.{◌≡◌, ℕ, length, map, take};
 ghost use Rattle.fields.specs.declared.numbers.field.TheConstants.{FIELDS};
-ghost use Rattle.classify.specs.search.NextMatch.{next_match};
-ghost use Rattle.classify.specs.steps.CommonPlaces.{AreRowsOf};
+ghost use Rattle.classify.specs.NextMatch.{next_match};
+ghost use Rattle.classify.specs.steps.CommonPlaces.{AreRowsOf, rows_found, AreFound, IsOfAll};
 ghost use Rattle.classify.specs.steps.Fields.{shown_line, EachLine};
-ghost use Rattle.classify.specs.steps.Found.{rows_found, AreFound};
-ghost use Rattle.classify.specs.steps.Summaries.{IsOfAll};
 
 use crate::line::owned::OwnedLine;
 use crate::search;
@@ -69,8 +67,7 @@ pub struct CandidateRows<'a> {
 impl<'a> Model for CandidateRows<'a> {
     ghost use Rattle.std.specs.Prelude.{Bool, List, ◌≤◌, ◌+◌, drop, take};
     ghost use Rattle.fields.specs.declared.numbers.field.TheConstants.{FIELDS};
-    ghost use Rattle.classify.specs.steps.CommonPlaces.{common_bits};
-    ghost use Rattle.classify.specs.steps.Summaries.{AreCandidates};
+    ghost use Rattle.classify.specs.steps.CommonPlaces.{common_bits, AreCandidates};
 
     ghost Value = { List Bool };
 

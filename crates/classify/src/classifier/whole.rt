@@ -2,7 +2,7 @@
 
 ghost use Rattle.std.specs.Prelude.{◌≡◌, ◌↔◌, ℕ, IsTrue, false, length, slice_index_or};
 ghost use Rattle.fields.specs.numbers.Spans.{SpanSet};
-ghost use Rattle.classify.specs.steps.Whole.{IsEverything, AreOthers, AreUnmarked};
+ghost use Rattle.classify.specs.steps.Kept.{IsEverything, AreOthers, AreUnmarked};
 
 use arrayvec::ArrayVec;
 use fields::{FIELDS, Spans};

@@ -2,14 +2,11 @@
 //! first; what follows cannot fail.
 
 ghost use Rattle.fields.specs.declared.numbers.spans.Interval.{Interval};
-ghost use Rattle.std.specs.Prelude.{◌≡◌, ◌<◌, ◌≤◌, ◌+◌, ◌-◌, ℕ, length, OnOk, IsOk, List, map, insert};
-ghost use Rattle.std.specs.Prelude.{remove, slice_set, slice_index, slice_index_or, false, true, [], ◌∷◌, IsTrue};
-ghost use Rattle.classify.specs.line.Line.{IsLineOf, starts};
-ghost use Rattle.classify.specs.steps.Pieces.{Differ, IsRising, IsSplitOf, StartsAt, row_bits};
+ghost use Rattle.std.specs.Prelude.{◌≡◌, ◌<◌, ◌≤◌, ◌+◌, ◌-◌, ℕ, length, OnOk, IsOk, List, map, insert, remove, slice_set, slice_index, slice_index_or, false, true, [], ◌∷◌, IsTrue};
+ghost use Rattle.classify.specs.Line.{IsLineOf, starts};
+ghost use Rattle.classify.specs.steps.Pieces.{Differ, IsRising, IsSplitOf, StartsAt, row_bits, CutsStart, EndsStart, ChangesAt, IsApart};
 ghost use Rattle.fields.specs.numbers.Spans.{has};
-ghost use Rattle.classify.specs.steps.Cuts.{CutsStart, EndsStart, ChangesAt, IsApart};
-ghost use Rattle.classify.specs.steps.Edits.{with_written, without_answer, IsMergeOf, IsUnsplitAt};
-ghost use Rattle.classify.specs.steps.Edits.{IsNumber, IsEndOf, IsJoined, IsJoinedBeside, KeepsApart, Says, row_of};
+ghost use Rattle.classify.specs.steps.Edits.{with_written, without_answer, IsMergeOf, IsUnsplitAt, IsNumber, IsEndOf, IsJoined, IsJoinedBeside, KeepsApart, Says, row_of};
 ghost use Rattle.classify.specs.steps.Fields.{IsCutFor, HasRoomAfter, TakesPlace, LeavesPlace, FreesRoom, FreesAll};
 ghost use Rattle.classify.specs.steps.Kept.{IsSound};
 

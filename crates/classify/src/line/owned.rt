@@ -1,18 +1,16 @@
 //! The line of a field as the classifier keeps it: the starts of its pieces, and their rows apart from them.
 
-ghost use Rattle.std.specs.Prelude.{ℕ, ◌≡◌, ◌<◌, ◌≤◌, ◌+◌, ◌-◌, ◌%◌, ◌^◌, length, map, insert, remove, slice_set, slice_index, slice_index_or, take};
-ghost use Rattle.std.specs.Prelude.{◌≢◌, false, true, IfOk, IsOk, OnOk, OnErr, IsTrue, ◌↔◌, [], ◌∷◌};
+ghost use Rattle.std.specs.Prelude.{ℕ, ◌≡◌, ◌<◌, ◌≤◌, ◌+◌, ◌-◌, ◌%◌, ◌^◌, length, map, insert, remove, slice_set, slice_index, slice_index_or, take, ◌≢◌, false, true, IfOk, IsOk, OnOk, OnErr, IsTrue, ◌↔◌, [], ◌∷◌};
 ghost use Rattle.bits.specs.MarginRows.{after_margin};
 ghost use Rattle.bits.specs.Rows.{two_words};
 ghost use Rattle.bits.specs.TurnedRows.{turned};
 ghost use Rattle.bits.specs.steps.Packing.{all_bits, IsPacked};
-ghost use Rattle.classify.specs.line.Line.{starts};
+ghost use Rattle.classify.specs.Line.{starts};
 ghost use Rattle.classify.specs.steps.Kept.{IsLine, line_prop};
 ghost use Rattle.classify.specs.steps.Pieces.{row_bits, row_in};
-ghost use Rattle.classify.specs.steps.Edits.{row_of};
+ghost use Rattle.classify.specs.steps.Edits.{row_of, IsRunWritten};
 ghost use Rattle.classify.specs.steps.Fields.{HasRoomAfter, TakesPlace, LeavesPlace, IsOpenedUp, IsClosedUp, IsRoomier, TakesNoneBeside, FreesRoom, FreesAll};
-ghost use Rattle.classify.specs.steps.Runs.{IsRunWritten};
-ghost use Rattle.bits.specs.steps.RowWords.{words_of};
+ghost use Rattle.bits.specs.steps.StoredRows.{words_of};
 ghost use Rattle.bits.specs.steps.Summaries.{IsSummaryOf};
 ghost use Rattle.std.specs.List.{zip};
 

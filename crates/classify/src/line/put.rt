@@ -3,11 +3,9 @@
 
 ghost use Rattle.std.specs.Prelude.{◌≡◌, ◌<◌, ◌≤◌, ◌+◌, ◌&&◌, ℕ, length, map, false, true, slice_index_or};
 ghost use Rattle.fields.specs.numbers.Spans.{has};
-ghost use Rattle.classify.specs.steps.Cuts.{CutsStart};
+ghost use Rattle.classify.specs.steps.Pieces.{CutsStart, IsRising, StartsAt, row_bits};
 ghost use Rattle.classify.specs.steps.Fields.{HasRoomAfter, TakesPlace};
-ghost use Rattle.classify.specs.steps.Edits.{row_of, with_answer, with_written};
-ghost use Rattle.classify.specs.steps.Pieces.{IsRising, StartsAt, row_bits};
-ghost use Rattle.classify.specs.steps.Runs.{IsRunIn};
+ghost use Rattle.classify.specs.steps.Edits.{row_of, with_answer, with_written, IsRunIn};
 
 use crate::line::owned::OwnedLine;
 use fields::{Interval, Spans};

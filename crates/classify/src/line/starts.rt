@@ -17,7 +17,7 @@ pub(crate) struct Starts {
 
 impl Model for Starts {
     ghost use Rattle.std.specs.Prelude.{List, ℕ, ◌++◌};
-    ghost use Rattle.classify.specs.steps.Starts.{AreParted};
+    ghost use Rattle.classify.specs.steps.Kept.{AreParted};
 
     ghost Value = { List ℕ };
 

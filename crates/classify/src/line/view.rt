@@ -2,7 +2,7 @@
 
 ghost use Rattle.std.specs.Prelude.{◌≡◌, ◌<◌, length, false, slice_index_or, []};
 ghost use Rattle.std.specs.Iterator.{YieldsFirst, item_count};
-ghost use Rattle.classify.specs.search.NextMatch.{next_match};
+ghost use Rattle.classify.specs.NextMatch.{next_match};
 
 use crate::line::owned::OwnedLine;
 use crate::search;

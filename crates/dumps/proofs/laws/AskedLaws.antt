@@ -8,8 +8,7 @@ use Rattle.std.proofs.lemmas.Bool.{or_parts}
 use Rattle.std.proofs.lemmas.Slice.Eq.{bytes_eq-Decides}
 use Rattle.std.proofs.lemmas.List.Elements.{All-nil, All-cons, All-head, All-tail, All-weaker, All-contains_itself, Contains-append_left, Contains-append_right, filter-append}
 use Rattle.dumps.specs.Options.{Row, Table, is_role, role_number, option_of}
-use Rattle.dumps.specs.Parts.{Part, value_of, option_of_begun, begun_by, implied_by, newest, option_after}
-use Rattle.dumps.specs.Apart.{AreParts, IsTakenApart}
+use Rattle.dumps.specs.Parts.{Part, value_of, option_of_begun, begun_by, implied_by, newest, option_after, AreParts, IsTakenApart}
 use Rattle.dumps.specs.Own.{is_read, is_of, begins, up_to_next}
 use Rattle.dumps.specs.Conditions.{Condition, is_unread, asked_options, asked_by, is_there, protocol_condition, asked_first, conditions_after, conditions, HasOwnStarts, MatchesAreAsked, ProtocolsAreAsked}
 use Rattle.dumps.specs.Conditions as asking

@@ -7,8 +7,7 @@ use Rattle.std.specs.Str.{bytes_eq}
 use Rattle.std.proofs.lemmas.Slice.Eq.{bytes_eq-Decides}
 use Rattle.std.proofs.lemmas.List.Elements.{All-nil, All-cons, All-head, All-tail, All-push}
 use Rattle.dumps.specs.Options.{Row, Extension, Table, is_role, option_of, extension_of, is_match, has_kind, has_match, has_target, begun_by_protocol, decides}
-use Rattle.dumps.specs.Parts.{Part, value_of, Refusal, UnknownMatch, DecidingTarget, option_of_begun, begun_by, implied_by, newest, option_after, refused_with}
-use Rattle.dumps.specs.Apart.{AreParts}
+use Rattle.dumps.specs.Parts.{Part, value_of, Refusal, UnknownMatch, DecidingTarget, option_of_begun, begun_by, implied_by, newest, option_after, refused_with, AreParts}
 use Rattle.dumps.specs.Own.{up_to_next}
 use Rattle.dumps.specs.Conditions.{Condition, condition_of, unless_always, asked_as, asked_of, always_hold, asked_options, conditions, lasting_of, IsAccounted, Asks, Holds, OfTarget, IsNotLost, OptionsAreKept, NothingIsLost}
 use Rattle.dumps.specs.declared.options.row.Role.TheVariants as role

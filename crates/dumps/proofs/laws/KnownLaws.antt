@@ -10,8 +10,8 @@ use Rattle.std.proofs.Math.Nat.{min-le_left}
 use Rattle.std.proofs.lemmas.List.Elements.{All-weaker, All-push, All-head, All-tail}
 use Rattle.std.proofs.Common.{◌≡◌, ◌≤◌, ◌<◌, ◌+◌, ◌-◌, ℕ, Bool, true, false, cond, List, [], ◌∷◌, ◌++◌, length, map, take, drop, Option, None, Some, is_some, option_map, find, IfSome, refl, ap, sym, subst, ◌∙◌, arith}
 use Rattle.std.specs.Str.{bytes_eq}
-use Rattle.dumps.specs.Known.{words_at, added_match, with_match, kept_row, kept_extension, known_rows, is_spelled, own_owner, Written, written_by, kind_of, name_refusal, IsAddRefused, Name, There, IsMatchRefused, OfName}
 use Rattle.dumps.specs.Kept.{AreWithin}
+use Rattle.dumps.specs.Known.{words_at, added_match, with_match, kept_row, kept_extension, known_rows, is_spelled, own_owner, Written, written_by, kind_of, name_refusal, IsAddRefused, Name, There, IsMatchRefused, OfName}
 use Rattle.dumps.specs.Options.{Row, Extension, extension_of}
 use Rattle.dumps.specs.Views.{texts_in}
 use Rattle.dumps.specs.declared.options.kept.Span.{Span}

@@ -1,7 +1,7 @@
 -- Conditions and their numbers.
 use Rattle.std.proofs.Common.{◌≡◌, ◌⊎◌, inl, inr, ℕ, zero, suc, ◌+◌, ◌<◌, Bool, true, false, ◌&&◌, ◌||◌, ◌==◌, cond, List, [], ◌∷◌, ◌++◌, length, take, drop, get_or, map, Option, None, Some, option_map, MatchOption, refl, sym, ap, subst, ◌∙◌, arith, add-zero, zero-add, append_assoc}
 use Rattle.std.proofs.lemmas.Bool.{cases_order}
-use Rattle.std.proofs.lemmas.List.Elements.{All-nil, All-cons}
+use Rattle.std.proofs.lemmas.List.Elements.{All-nil, All-cons, filter-append}
 use Rattle.std.specs.Bool.{Decides}
 use Rattle.std.specs.List.{list_any, slice_get, filter, flat_map, IsDistinct}
 use Rattle.std.specs.Str.{bytes_eq}
@@ -17,7 +17,6 @@ use Rattle.std.proofs.lemmas.Map.Lookups.{exact_bytes}
 use Rattle.std.proofs.lemmas.Slice.Eq.{bytes_eq-Decides}
 use Rattle.std.proofs.lemmas.Bool.Decides.{same_from_decides, Decides-eqb, nat_tests}
 use Rattle.std.proofs.lemmas.List.{take_more, drop_more, map_push, map-append, append-nil, length-append}
-use Rattle.std.proofs.lemmas.List.Elements.{filter-append}
 use Rattle.std.proofs.lemmas.List.Concat.{flat_map-append}
 use Rattle.std.proofs.lemmas.List.Sums.{sum_by-append}
 use Rattle.std.proofs.lemmas.List.Folds.{list_any-append}
@@ -25,11 +24,10 @@ use Rattle.std.proofs.lemmas.Map.Keys.{IsDistinct-push, apart_from_distinct}
 use Rattle.std.specs.Cmp.{IsEquivalence}
 use Rattle.std.specs.Map.{lookup}
 use Rattle.dumps.specs.Foreign.{Needed, ReadRule, is_in, needed_in, needs_in, rule_in, inversions, inversions_of}
-use Rattle.dumps.specs.NeedViews.{inversions_in, all_inversions_in}
+use Rattle.dumps.specs.Views.{inversions_in, all_inversions_in, identity_in, key_place_in, text_cmp, place_cmp, key_cmp, IsIndex, count_in, AreCounts, numbers_of, numbers_in, needs_within, AreNeedsNumbered, AreNumberedSoFar}
 use Rattle.dumps.specs.declared.reading.foreign.NeededText.{NeededText}
 use Rattle.dumps.specs.declared.reading.foreign.ForeignRule.{ForeignRule}
 use Rattle.dumps.specs.Numbers.{Identity, Asked, Place, Numbers, identity_of, identities, is_one, is_one_place, has, with_one, with_all, added, identity_at, told, asked, asked_by_rule, asked_from, in_one_list, count_of, is_of_place, AreApart, AreOfOnePlace, place_identity, OneNumberIsOneCondition, NumbersStay, EachHasNumber, NumbersTellConditions}
-use Rattle.dumps.specs.NumberViews.{identity_in, key_place_in, text_cmp, place_cmp, key_cmp, IsIndex, count_in, AreCounts, numbers_of, numbers_in, needs_within, AreNeedsNumbered, AreNumberedSoFar}
 use Rattle.dumps.specs.declared.conditions.ForeignNeed.{ForeignNeed}
 use Rattle.dumps.specs.declared.conditions.Key.{Key}
 

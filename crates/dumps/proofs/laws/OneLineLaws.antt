@@ -3,7 +3,7 @@ use Rattle.std.proofs.Common.{◌≢◌, ℕ, Bool, true, false, cond, List, [],
 use Rattle.std.specs.Prelude.{All, IfSome, codes, find, option_map}
 use Rattle.std.specs.Str.{bytes_eq}
 use Rattle.std.proofs.lemmas.List.Elements.{All-nil, All-cons, All-head, All-tail, All-append, All-push}
-use Rattle.fields.specs.text.OneLine.{IsOneLine, AreOneLine}
+use Rattle.fields.specs.text.Line.{IsOneLine, AreOneLine}
 use Rattle.dumps.specs.Options.{Table, number_of, is_role}
 use Rattle.dumps.specs.Parts.{Part, spelled_words, part_words}
 use Rattle.dumps.specs.Own.{number_or, numbered, is_separator, all_numbered, all_numbered_after, given_value, given_words, is_own, own_part_words, own_words, HasNumbersInOneLine, OwnLinesReadBack}

@@ -5,9 +5,9 @@ use Rattle.std.specs.List.{filter_map, cons_option, list_all}
 use Rattle.std.proofs.lemmas.Bool.{and_parts}
 use Rattle.std.proofs.lemmas.List.{map-append}
 use Rattle.std.proofs.lemmas.List.Elements.{filter_map-append, All-nil, All-cons}
-use Rattle.fields.proofs.laws.text.OneLineLaws.{one_line_is}
+use Rattle.fields.proofs.laws.text.PrintedLaws.{one_line_is}
 use Rattle.fields.specs.text.Cut.{cut_at}
-use Rattle.fields.specs.text.OneLine.{IsOneLine, is_one_line}
+use Rattle.fields.specs.text.Line.{IsOneLine, is_one_line}
 use Rattle.dumps.specs.Services.{names_of, services, icmp_types, HaveOneLine}
 
 -- what a further line adds

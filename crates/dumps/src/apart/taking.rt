@@ -3,8 +3,7 @@ ghost use Rattle.std.specs.Prelude.{◌≡◌, ◌∷◌, ◌≤◌, ◌<◌, no
 ghost use Rattle.std.specs.Option.{option_or};
 ghost use Rattle.fields.specs.text.WordSlice.{words_in};
 ghost use Rattle.dumps.specs.Options.{is_match, has_match, has_target, decides, option_of, begins_or_names};
-ghost use Rattle.dumps.specs.Parts.{begun_by, implied_by, option_of_begun, newest, option_after, refused_with, value_of, checked, with_values, with_row, after_bang, next_part};
-ghost use Rattle.dumps.specs.Apart.{IsTakenApart, IsRefused, IsOneWay, IsNeverBoth, IsRefusedOneWay, HasOutcome};
+ghost use Rattle.dumps.specs.Parts.{begun_by, implied_by, option_of_begun, newest, option_after, refused_with, value_of, checked, with_values, with_row, after_bang, next_part, IsTakenApart, IsRefused, IsOneWay, IsNeverBoth, IsRefusedOneWay, HasOutcome};
 ghost use Rattle.dumps.specs.Views.{table_in, row_in, rows_in, part_in, parts_of, parts_in, refusal_in, refusal_at, PartGives, begun};
 
 use crate::apart::Apart;

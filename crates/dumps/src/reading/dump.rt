@@ -1,8 +1,7 @@
 //! The lines of a dump, read one after another.
 ghost use Rattle.std.specs.Prelude.{◌≡◌, ◌++◌, ◌∷◌, [], option_map, IfOk};
 ghost use Rattle.dumps.specs.Reading.{counters_text, head_text, hides_target, is_too_long};
-ghost use Rattle.dumps.specs.Views.{table_in};
-ghost use Rattle.dumps.specs.LineViews.{rule_line_in};
+ghost use Rattle.dumps.specs.Views.{table_in, rule_line_in};
 
 use crate::apart::own_line::{append_spelled, append_word};
 use crate::apart::taking::take_apart;
@@ -103,13 +102,9 @@ impl<'a> Reading<'a> {
     ghost use Rattle.fields.specs.text.WordSlice.{words_in};
     ghost use Rattle.dumps.specs.Foreign.{needs_some, rules_in, sets_in};
     ghost use Rattle.dumps.specs.SectionLines.{rule_line, other_line};
-    ghost use Rattle.dumps.specs.LineViews.{rule_line_in, other_line_in};
-    ghost use Rattle.dumps.specs.Reading.{nothing_read, kept, noted, opened, opened_by, refused_name, refused_move, moved_by, other_refusal, IsMovedWith};
-    ghost use Rattle.dumps.specs.Reading.{IsRuleTaken, IsRuleRead, IsOtherRead, IsFilterRead, IsReadAt, IsLineRead};
-    ghost use Rattle.dumps.specs.Reading.{IsRuleRefused, IsFilterRefused, IsRefusedAt, IsLineRefused};
-    ghost use Rattle.dumps.specs.ReadingViews.{read_in, refused_in};
-    ghost use Rattle.dumps.specs.Beside.{LinesComeWithRules, StandsBeside};
-    ghost use Rattle.dumps.specs.Views.{table_in};
+    ghost use Rattle.dumps.specs.Views.{rule_line_in, other_line_in, read_in, refused_in, table_in};
+    ghost use Rattle.dumps.specs.Reading.{nothing_read, kept, noted, opened, opened_by, refused_name, refused_move, moved_by, other_refusal, IsMovedWith, IsRuleTaken, IsRuleRead, IsOtherRead, IsFilterRead, IsReadAt, IsLineRead, IsRuleRefused, IsFilterRefused, IsRefusedAt, IsLineRefused};
+    ghost use Rattle.dumps.specs.Beside.{LinesComeWithRules, NeededRulesStandStill, StandsBeside};
 
     /// The reading of a dump of which no line was read, by a table of options.
     pub fn new(alloc: Global, table: OptionTable<'a>) -> Reading<'a>
@@ -351,9 +346,10 @@ impl<'a> Reading<'a> {
     }
 
     /// What was read.
-    #[tactic(auto, using(crate::proofs::laws::BesideLaws::lines_come_with_rules))]
+    #[tactic(auto, using(crate::proofs::laws::ReadingLaws::lines_come_with_rules, crate::proofs::laws::ReadingLaws::needed_rules_stand_still))]
     pub fn finish(self) -> Whole
         ensures together { LinesComeWithRules }
+        ensures still { NeededRulesStandStill }
         ensures text { result.text.items ≡ (read_in self.entry).text }
         ensures rules { rules_in result.foreign ≡ (read_in self.entry).rules }
         ensures sets { sets_in result.foreign ≡ (read_in self.entry).sets }

@@ -1,8 +1,7 @@
 //! Why a line of a dump is refused.
 ghost use Rattle.std.specs.Prelude.{◌≡◌, Some, IfSome, option_map};
 ghost use Rattle.dumps.specs.Reading.{apart_refusal};
-ghost use Rattle.dumps.specs.ReadingViews.{refused_in};
-ghost use Rattle.dumps.specs.Views.{refusal_in};
+ghost use Rattle.dumps.specs.Views.{refused_in, refusal_in};
 ghost use Rattle.dumps.specs.declared.reading.fault.DumpFault.TheVariants.{NoMemory};
 
 use crate::apart::fault::ApartFault;
@@ -18,7 +17,7 @@ pub struct LineWord {
 
 impl LineWord {
     ghost use Rattle.std.specs.Prelude.{◌≡◌, IfOk};
-    ghost use Rattle.dumps.specs.ReadingViews.{word_in};
+    ghost use Rattle.dumps.specs.Views.{word_in};
 
     pub(crate) fn of(alloc: Global, word: &[u8]) -> Result<LineWord, AllocError>
         ensures { IfOk result (λ copy. word_in copy ≡ word.now) }

@@ -3,9 +3,8 @@ ghost use Rattle.std.specs.Prelude.{◌≡◌, ◌==◌, ◌∷◌, drop, option
 ghost use Rattle.std.specs.List.{list_any};
 ghost use Rattle.fields.specs.text.WordSlice.{words_in};
 ghost use Rattle.dumps.specs.Parts.{first_of};
-ghost use Rattle.dumps.specs.SectionLines.{begins_with, is_either, is_commit_word, is_commit, rule_after, rule_line};
-ghost use Rattle.dumps.specs.SectionLines.{command_line, behind_table, any_command_line, counted_line, line_of_first, other_line};
-ghost use Rattle.dumps.specs.LineViews.{rule_line_in, other_line_in};
+ghost use Rattle.dumps.specs.SectionLines.{begins_with, is_either, is_commit_word, is_commit, rule_after, rule_line, command_line, behind_table, any_command_line, counted_line, line_of_first, other_line};
+ghost use Rattle.dumps.specs.Views.{rule_line_in, other_line_in};
 
 use fields::{WordSlice, Words};
 

@@ -1,8 +1,11 @@
--- Tests over lists.
-use Rattle.std.proofs.Common.{◌≡◌, ℕ, zero, suc, Bool, true, false, cond, not, ◌&&◌, List, [], ◌∷◌, take, None, Some, refl, ap, subst, ◌∙◌}
+-- Tests over lists, and the place of the first element that passes one.
+use Rattle.std.proofs.Common.{◌≡◌, ℕ, zero, suc, Bool, true, false, cond, not, ◌&&◌, List, [], ◌∷◌, take, None, Some, refl, ap, subst, ◌∙◌, inl, inr, ◌+◌, ◌||◌, length, sym, is_some, arith}
 use Rattle.std.specs.Prelude.{find}
-use Rattle.std.specs.List.{list_all}
-use Rattle.std.proofs.lemmas.Bool.{and_parts, and_from, not-true}
+use Rattle.std.specs.List.{list_all, list_any, position, position_or_len}
+use Rattle.std.proofs.lemmas.Bool.{and_parts, and_from, not-true, cases_lt, lt-ltb, le-ltb}
+use Rattle.std.proofs.Math.Dec.{ltb}
+
+-- ---- Tests over lists.
 
 -- what is found passes the test, and what all pass
 pub find-passes : {X : Type 0} (test pass : X → Bool) (xs : List X) (x : X) → find test xs ≡ Some x → list_all pass xs ≡ true → (test x ≡ true) × (pass x ≡ true)
@@ -45,3 +48,25 @@ pub all-take : {X : Type 0} (p : X → Bool) (n : ℕ) (xs : List X) → list_al
 all-take p zero xs all = refl
 all-take p (suc n) [] all = refl
 all-take p (suc n) (x ∷ xs) all = let (first, others) = and_parts (p x) (list_all p xs) all in and_from _ _ first (all-take p n xs others)
+
+-- ---- The place of the first element that passes a test.
+
+some_is : {A : Type 0} (b : Bool) (x : A) → is_some (cond b (Some x) None) ≡ b
+some_is true x = refl
+some_is false x = refl
+
+found : {A : Type 0} (p : A → Bool) (xs : List A) → ltb (position_or_len p xs) (length xs) ≡ list_any p xs
+found p [] = refl
+found p (x ∷ xs) =
+    let n : ℕ = position_or_len p xs in
+    elim (p x) as (λ b. ltb (cond (not b) (1 + n) 0) (length (x ∷ xs)) ≡ (b || list_any p xs)) [
+      | true ↦ lt-ltb 0 (length (x ∷ xs)) (omega arith)
+      | false ↦ elim (cases_lt n (length xs)) [
+        | inl lt ↦ lt-ltb (1 + n) (length (x ∷ xs)) (omega arith) ∙ sym (lt-ltb n (length xs) lt) ∙ found p xs
+        | inr ge ↦ le-ltb (1 + n) (length (x ∷ xs)) (omega arith) ∙ sym (le-ltb n (length xs) ge) ∙ found p xs
+      ]
+    ]
+
+-- a test finds an element where there is a place of one
+pub any_is : {A : Type 0} (p : A → Bool) (xs : List A) → is_some (position p xs) ≡ list_any p xs
+any_is p xs = some_is (ltb (position_or_len p xs) (length xs)) (position_or_len p xs) ∙ found p xs

@@ -2,12 +2,8 @@ pub mod BareLaws
 pub mod ConnectionStateLaws
 pub mod IcmpLaws
 pub mod InterfaceLaws
-pub mod InterfaceNameLaws
-pub mod IpRangeLaws
-pub mod JoinLaws
 pub mod LogLevelLaws
 pub mod NameListLaws
-pub mod OctetLaws
 pub mod PortListLaws
 pub mod PortRangeLaws
 pub mod PrefixLaws
@@ -15,4 +11,3 @@ pub mod ProtocolLaws
 pub mod RejectLaws
 pub mod TcpFlagsLaws
 pub mod TtlLaws
-pub mod UnionLaws

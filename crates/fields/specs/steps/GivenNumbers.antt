@@ -3,8 +3,7 @@ use Rattle.std.specs.Prelude.{ℕ, ◌≡◌, ◌≤◌, Bool, not, ◌&&◌, �
 use Rattle.std.specs.List.{list_any}
 use Rattle.fields.specs.Sequence.{◌>>=◌}
 use Rattle.fields.specs.numbers.Field.{all_fields, index, top}
-use Rattle.fields.specs.packet.Keys.{key_of, carries}
-use Rattle.fields.specs.packet.Packet.{PacketView, text_of, number_of_text}
+use Rattle.fields.specs.Packet.{key_of, carries, PacketView, text_of, number_of_text}
 use Rattle.fields.specs.declared.numbers.field.Field.{Field}
 use Rattle.fields.specs.declared.numbers.field.Field.TheVariants as fields
 use Rattle.fields.specs.declared.packet.keys.Shape.{Shape}

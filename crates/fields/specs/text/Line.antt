@@ -1,12 +1,27 @@
--- Lines of bytes, and what a call that reads a line takes of them.
-use Rattle.std.specs.Prelude.{◌≡◌, ℕ, ◌+◌, ◌<◌, ◌≤◌, ◌==◌, Bool, List, [], ◌∷◌, ◌++◌, length, Result, Ok, Err, Option, Some, None, OnSome}
-use Rattle.std.specs.Prelude.{if◌then◌else◌}
+-- Lines of bytes: texts that stand in one line, and what a call that reads a line takes.
+use Rattle.std.specs.Prelude.{◌≢◌, ℕ, ◌==◌, Bool, not, List, All, ◌≡◌, ◌+◌, ◌<◌, ◌≤◌, [], ◌∷◌, ◌++◌, length, Result, Ok, Err, Option, Some, None, OnSome, if◌then◌else◌}
+use Rattle.std.specs.List.{list_all}
 use Rattle.std.specs.Bool.{MatchBool}
 use Rattle.std.specs.Io.KnownBytes.{Consumes, IsAtEnd}
-use Rattle.fields.specs.text.OneLine.{IsOneLine}
 use Rattle.fields.specs.declared.text.line.LineEnd.{LineEnd}
-use Rattle.fields.specs.declared.text.line.LineEnd.TheVariants as ends
 use Rattle.fields.specs.declared.text.line.LineRead.{LineRead}
+use Rattle.fields.specs.declared.text.line.LineEnd.TheVariants as ends
+
+-- ---- Texts that stand in one line.
+
+-- no byte is a newline (10)
+abbrev pub IsOneLine : List ℕ → Type 0
+IsOneLine text = All (λ byte. byte ≢ 10) text
+
+-- the test of it
+abbrev pub is_one_line : List ℕ → Bool
+is_one_line text = list_all (λ byte. not (byte == 10)) text
+
+-- no text has a newline
+abbrev pub AreOneLine : List (List ℕ) → Type 0
+AreOneLine texts = All IsOneLine texts
+
+-- ---- Lines of bytes, and what a call that reads a line takes of them.
 
 -- the text is held whole, or the flag says that it has more than `max` bytes
 abbrev pub IsHeld : ℕ → List ℕ → List ℕ → Bool → Type 0

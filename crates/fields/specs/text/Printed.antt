@@ -2,7 +2,7 @@
 use Rattle.std.specs.Prelude.{◌≡◌, ◌≢◌, ℕ, Bool, true, false, IsTrue, List, [], ◌∷◌, map, flat_map, All, Some, if◌then◌else◌}
 use Rattle.std.specs.Bool.{MatchBool}
 use Rattle.std.specs.List.{list_all}
-use Rattle.fields.specs.text.OneLine.{IsOneLine}
+use Rattle.fields.specs.text.Line.{IsOneLine}
 use Rattle.fields.specs.text.Words.{is_bare, words_of}
 use Rattle.fields.specs.values.FreeText.{quoted}
 

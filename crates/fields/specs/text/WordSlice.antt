@@ -1,6 +1,6 @@
 -- Words that are lent by reference.
 use Rattle.std.specs.Prelude.{ℕ, List}
-use Rattle.fields.specs.text.WordEnds.{words_to}
+use Rattle.fields.specs.text.Words.{words_to}
 use Rattle.fields.specs.declared.text.word_slice.WordSlice.{WordSlice}
 
 -- the words

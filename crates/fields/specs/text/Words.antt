@@ -1,10 +1,13 @@
--- The words of a command line, and how they are quoted (iptables-restore(8)): first what they are (`AreWords`), then how they are
--- found (`words_of`).
-use Rattle.std.specs.Prelude.{◌≡◌, ◌≢◌, ℕ, Bool, not, ◌&&◌, ◌||◌, ◌==◌, ◌⊎◌, IsTrue, List, [], ◌∷◌, ◌++◌, Option, Some, None, if◌then◌else◌}
+-- The words of a command line: what they are and how they are quoted (iptables-restore(8)), how they are found, and how they lie one after
+-- another in one list of bytes.
+use Rattle.std.specs.Prelude.{◌≡◌, ◌≢◌, ℕ, Bool, not, ◌&&◌, ◌||◌, ◌==◌, ◌⊎◌, IsTrue, List, [], ◌∷◌, ◌++◌, Option, Some, None, if◌then◌else◌, ◌-◌, nat_le, take, drop}
 use Rattle.std.specs.List.{list_all}
 use Rattle.std.specs.Option.{option_map}
 use Rattle.fields.specs.declared.text.words.WordFault.{WordFault}
 use Rattle.fields.specs.declared.text.words.WordFault.TheVariants.{Quoting, NoMemory}
+
+-- ---- The words of a command line, and how they are quoted (iptables-restore(8)): first what they are (`AreWords`), then how they are
+-- found (`words_of`).
 
 -- a blank (32) or a tab (9)
 abbrev pub is_blank : ℕ → Bool
@@ -111,3 +114,15 @@ words_of line = words_from Between line
 abbrev pub OnQuoting : WordFault → Type 0 → Type 0
 OnQuoting Quoting P = P
 OnQuoting NoMemory P = Unit {0}
+
+-- ---- Words that lie one after another in one list of bytes, given by the places where they end.
+
+-- the words of the bytes from a place on: each goes up to its end, where the next one begins
+abbrev pub words_to : List ℕ → ℕ → List ℕ → List (List ℕ)
+words_to bytes from [] = []
+words_to bytes from (end ∷ ends) = take (end - from) (drop from bytes) ∷ words_to bytes end ends
+
+-- no end lies before the end before it, the first not before the given place, and none beyond the last byte
+abbrev pub do_rise : ℕ → List ℕ → ℕ → Bool
+do_rise from [] last = nat_le from last
+do_rise from (end ∷ ends) last = nat_le from end && do_rise end ends last

@@ -1,10 +1,9 @@
 -- Free texts, as `--comment` and `--log-prefix` take them (iptables-extensions(8), comment and LOG), and how a listing quotes them
 -- (iptables-save(8)).
-use Rattle.std.specs.Prelude.{ℕ, Bool, ◌&&◌, ◌||◌, ◌==◌, nat_lt, nat_le, List, [], ◌∷◌, ◌++◌, length, flat_map, Option, Some, None}
-use Rattle.std.specs.Prelude.{if◌then◌else◌}
+use Rattle.std.specs.Prelude.{ℕ, Bool, ◌&&◌, ◌||◌, ◌==◌, nat_lt, nat_le, List, [], ◌∷◌, ◌++◌, length, flat_map, Option, Some, None, if◌then◌else◌}
 use Rattle.std.specs.List.{list_all}
 use Rattle.std.specs.Char.{is_ascii_alphanumeric}
-use Rattle.fields.specs.text.OneLine.{is_one_line}
+use Rattle.fields.specs.text.Line.{is_one_line}
 
 -- a text of at most so many bytes, none of them a newline; it may be empty
 unfoldable pub text_of : ℕ → List ℕ → Option (List ℕ)

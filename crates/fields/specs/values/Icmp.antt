@@ -1,6 +1,5 @@
--- ICMP types and codes, as `--icmp-type` takes them (iptables-extensions(8), icmp).
-use Rattle.std.specs.Prelude.{ℕ, ◌<◌, ◌/◌, ◌%◌, ◌==◌, ◌&&◌, Bool, true, List, [], ◌∷◌, ◌++◌, find, Option, Some, None, option_map}
-use Rattle.std.specs.Prelude.{if◌then◌else◌, codes, decimal}
+-- ICMP types and codes, as `--icmp-type` takes them (iptables-extensions(8), icmp) and as a packet has them.
+use Rattle.std.specs.Prelude.{ℕ, ◌<◌, ◌/◌, ◌%◌, ◌==◌, ◌&&◌, Bool, true, List, [], ◌∷◌, ◌++◌, find, Option, Some, None, option_map, if◌then◌else◌, codes, decimal, ◌+◌, ◌*◌}
 use Rattle.std.specs.Option.{option_or}
 use Rattle.std.specs.Str.{bytes_eq}
 use Rattle.fields.specs.Sequence.{◌>>=◌}
@@ -8,6 +7,8 @@ use Rattle.fields.specs.text.Cut.{cut_at}
 use Rattle.fields.specs.text.Number.{number_to}
 use Rattle.fields.specs.declared.values.icmp.Asked.{Asked}
 use Rattle.fields.specs.declared.values.icmp.Asked.TheVariants.{Any, OfType, OfCode}
+
+-- ---- ICMP types and codes, as `--icmp-type` takes them (iptables-extensions(8), icmp).
 
 -- the names, each with the type or the type and code that it stands for
 abbrev pub icmp_names : List (List ℕ × Asked)
@@ -57,3 +58,13 @@ abbrev pub icmp_passes : Asked → ℕ → Bool
 icmp_passes Any value = true
 icmp_passes (OfType t) value = value / 256 == t
 icmp_passes (OfCode t c) value = (value / 256 == t) && (value % 256 == c)
+
+-- ---- The ICMP type and code of a packet.
+
+-- the number of a packet's `type/code`, each up to 255: the type times 256, plus the code
+unfoldable pub packet_icmp_of : List ℕ → Option ℕ
+packet_icmp_of text = do
+  p ← cut_at 47 text
+  t ← number_to 255 p.0
+  c ← number_to 255 p.1
+  Some (t * 256 + c)

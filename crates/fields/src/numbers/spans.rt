@@ -218,6 +218,7 @@ impl Spans {
 }
 
 /// The law that sets of the same numbers have the same intervals: its contract is the law, and it does nothing.
+#[tactic(auto, using(crate::proofs::laws::numbers::SpanLaws::unique))]
 pub fn canonical_is_unique()
     ensures { CanonicalIsUnique }
 {}

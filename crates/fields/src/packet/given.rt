@@ -1,6 +1,6 @@
 //! The numbers that the words of a packet line give the fields: each word is read once.
 ghost use Rattle.std.specs.Prelude.{◌≡◌, ◌≤◌, [], length, drop, IfOk};
-ghost use Rattle.fields.specs.packet.Packet.{field_of, part_of, leftmost_fault};
+ghost use Rattle.fields.specs.Packet.{field_of, part_of, leftmost_fault};
 ghost use Rattle.fields.specs.steps.GivenNumbers.{number_in, IsGiven, fault_in, with_part, fault_of};
 
 use crate::numbers::field::{FIELDS, Field};

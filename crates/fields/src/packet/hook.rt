@@ -14,7 +14,7 @@ pub enum Hook {
 
 impl Hook {
     ghost use Rattle.fields.specs.declared.packet.hook.Hook.{Hook};
-    ghost use Rattle.fields.specs.packet.Hook.{name, all_hooks, hook_of};
+    ghost use Rattle.fields.specs.Hook.{name, all_hooks, hook_of};
 
     /// Each hook, in the order of a listing.
     pub const ALL: [Hook; 3] = [Hook::Input, Hook::Forward, Hook::Output];

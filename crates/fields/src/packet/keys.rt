@@ -59,7 +59,7 @@ pub(crate) struct Shape {
 }
 
 impl ValueKind {
-    ghost use Rattle.fields.specs.packet.Keys.{value_of};
+    ghost use Rattle.fields.specs.Packet.{value_of};
 
     pub(crate) fn read(self, text: &[u8]) -> Option<u128>
         ensures { result ≡ value_of self text.now }
@@ -90,7 +90,7 @@ fn has_ports(protocol: u128) -> bool
 }
 
 impl Shape {
-    ghost use Rattle.fields.specs.packet.Keys.{carries, comes_in, goes_out, is_first_of};
+    ghost use Rattle.fields.specs.Packet.{carries, comes_in, goes_out, is_first_of};
 
     fn comes_in(self) -> bool
         ensures { result ≡ comes_in self.hook }
@@ -144,7 +144,7 @@ impl Shape {
 }
 
 impl KeyRow {
-    ghost use Rattle.fields.specs.packet.Keys.{key, key_of};
+    ghost use Rattle.fields.specs.Packet.{key, key_of};
 
     fn new(value: ValueKind, carrier: Carrier, is_required: bool, absent: u128) -> KeyRow
         ensures { result ≡ key value carrier is_required absent }

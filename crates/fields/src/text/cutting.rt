@@ -3,8 +3,7 @@
 ghost use Rattle.std.specs.Prelude.{◌≡◌, ◌≤◌, ◌+◌, true, not, nat_lt, length, take, All};
 ghost use Rattle.std.specs.List.{prefix_len};
 ghost use Rattle.std.specs.Simd.Lanes.{chunk};
-ghost use Rattle.fields.specs.text.Words.{is_bare};
-ghost use Rattle.fields.specs.text.WordEnds.{do_rise};
+ghost use Rattle.fields.specs.text.Words.{is_bare, do_rise};
 
 use crate::text::words::WordFault;
 use std::alloc::Global;

@@ -3,7 +3,7 @@ ghost use Rattle.std.specs.Prelude.{◌≡◌, ◌≢◌, ◌+◌, ◌<◌, ◌�
 ghost use Rattle.std.specs.Io.KnownBytes.{Consumes, Keeps, IsAtEnd};
 ghost use Rattle.fields.specs.text.Tap.{has_failed, device, is_late, is_late_after, known, shown_left, turns_left, ShowsWithin};
 ghost use Rattle.fields.specs.text.Line.{IsHeld, ReadsLine, ReadsPart, ReadsOn};
-ghost use Rattle.fields.specs.steps.LineSteps.{TakesPart, HoldsMore, IsLast};
+ghost use Rattle.fields.specs.steps.Cutting.{TakesPart, HoldsMore, IsLast};
 
 use crate::text::tap::{ReadFailed, Tap};
 use memchr::memchr;

@@ -1,6 +1,6 @@
 //! Some of the words of a line, lent.
 ghost use Rattle.std.specs.Prelude.{◌≡◌, ◌∷◌, ◌≤◌, true, length, slice_index};
-ghost use Rattle.fields.specs.text.WordEnds.{do_rise};
+ghost use Rattle.fields.specs.text.Words.{do_rise};
 
 /// Some words of a line, one after another, lent by the `Words` that have them. No call takes memory.
 #[derive(Clone, Copy)]
@@ -22,7 +22,7 @@ fn start_of(from: usize, ends: &[usize], place: usize) -> usize
 
 impl<'a> WordSlice<'a> {
     ghost use Rattle.std.specs.Prelude.{◌≡◌, ◌<◌, ◌≤◌, ◌↔◌, ◌∷◌, [], length, take, drop, true, slice_get, Some, IsTrue, MatchOption};
-    ghost use Rattle.fields.specs.text.WordEnds.{do_rise, words_to};
+    ghost use Rattle.fields.specs.text.Words.{do_rise, words_to};
     ghost use Rattle.fields.specs.text.WordSlice.{words_in};
 
     // All words of the bytes, by their ends.

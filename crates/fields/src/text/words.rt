@@ -1,6 +1,6 @@
 //! The words of a line, in one buffer, with the places where they end.
 ghost use Rattle.std.specs.Prelude.{◌≡◌, ◌<◌, ◌≤◌, ◌↔◌, ℕ, List, [], length, drop, slice_get, IsTrue, Some, None, MatchResult, OnOk, IfOk, IfErr};
-ghost use Rattle.fields.specs.text.OneLine.{IsOneLine, AreOneLine};
+ghost use Rattle.fields.specs.text.Line.{IsOneLine, AreOneLine};
 ghost use Rattle.fields.specs.text.Words.{words_of, AreWords, OnQuoting};
 ghost use Rattle.fields.specs.text.WordSlice.{words_in};
 
@@ -30,8 +30,8 @@ pub struct Words {
 
 impl Model for Words {
     ghost use Rattle.std.specs.Prelude.{◌≡◌, ℕ, List, true, length};
-    ghost use Rattle.fields.specs.text.OneLine.{AreOneLine};
-    ghost use Rattle.fields.specs.text.WordEnds.{words_to, do_rise};
+    ghost use Rattle.fields.specs.text.Line.{AreOneLine};
+    ghost use Rattle.fields.specs.text.Words.{words_to, do_rise};
 
     ghost Value = { List (List ℕ) };
 

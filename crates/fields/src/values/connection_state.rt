@@ -5,7 +5,7 @@ ghost use Rattle.fields.specs.numbers.Spans.{has};
 ghost use Rattle.std.specs.Int.RustNames.{bit_and};
 ghost use Rattle.fields.specs.values.ConnectionState.{states, ctstate_of, state_of, IsStates, states_text, packet_states, packet_state_of, marks_of, states_pass};
 ghost use Rattle.fields.specs.values.NameList.{number_named};
-ghost use Rattle.fields.specs.steps.PacketStateTable.{named_numbers, marks_in, all_marked};
+ghost use Rattle.fields.specs.steps.Tables.{named_numbers, marks_in, all_marked};
 ghost use Rattle.fields.specs.text.Tap.{has_failed, Puts};
 
 use crate::numbers::field::STATE_TOP;
@@ -199,7 +199,7 @@ impl CtSet {
 
     /// Writes the names of the set in the order INVALID, NEW, RELATED, ESTABLISHED, UNTRACKED, SNAT, DNAT, separated by
     /// commas. That text reads back as this set. It takes no memory.
-    #[tactic(auto, using(crate::proofs::laws::values::ConnectionStateLaws::ctstate_reads_back, crate::proofs::laws::values::ConnectionStateLaws::state_reads_back))]
+    #[tactic(auto, using(crate::proofs::laws::values::ConnectionStateLaws::ctstate_reads_back, crate::proofs::laws::values::ConnectionStateLaws::state_reads_back,),)]
     pub fn put<W: Write>(self, output: &mut Tap<W>) -> Result<(), WriteFailed>
         ensures text { Puts W.contents output.old output.new result (states_text self) }
         ensures reads_back { ctstate_of (states_text self) ≡ Some self }

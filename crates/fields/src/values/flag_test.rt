@@ -24,7 +24,7 @@ pub struct FlagTest {
 
 impl FlagTest {
     ghost use Rattle.fields.specs.declared.values.flag_test.FlagTest.{FlagTest};
-    ghost use Rattle.fields.specs.values.FlagTest.{IsFlagTest, flags_pass, flag_test_of, asks_nothing, flag_test_text};
+    ghost use Rattle.fields.specs.values.TcpFlags.{IsFlagTest, flags_pass, flag_test_of, asks_nothing, flag_test_text};
 
     /// The condition that two flag lists write, the mask first. The two words that `put` writes of a condition read
     /// back as it.

@@ -1,7 +1,7 @@
 //! Texts of any bytes but newlines: comments and log prefixes.
 ghost use Rattle.std.specs.Prelude.{◌≡◌, ◌≤◌, ◌∷◌, [], length, Option, Some, None, false, flat_map};
 ghost use Rattle.std.specs.List.{list_all};
-ghost use Rattle.fields.specs.text.OneLine.{IsOneLine, is_one_line};
+ghost use Rattle.fields.specs.text.Line.{IsOneLine, is_one_line};
 ghost use Rattle.fields.specs.text.Words.{words_of};
 ghost use Rattle.fields.specs.values.FreeText.{text_of, is_plain_byte, is_plain, escaped, in_quotes, quoted};
 ghost use Rattle.fields.specs.text.Printed.{LinesReadBack};
@@ -27,7 +27,7 @@ impl<const N: usize> Model for Text<N> {
 
     ghost view = { λ text. text.bytes.items };
 
-    ghost use Rattle.fields.specs.text.OneLine.{IsOneLine};
+    ghost use Rattle.fields.specs.text.Line.{IsOneLine};
 
     ghost invariant = { λ text. (length text.bytes.items ≤ N) × IsOneLine text.bytes.items };
 
@@ -36,7 +36,7 @@ impl<const N: usize> Model for Text<N> {
 
 impl<const N: usize> Text<N> {
     /// The text of these bytes, where there are at most `N`, and no newline (10) among them. It takes no memory.
-    #[tactic(auto, using(crate::proofs::laws::text::OneLineLaws::one_line_is), unfolding(crate::specs::values::FreeText::text_of))]
+    #[tactic(auto, using(crate::proofs::laws::text::PrintedLaws::one_line_is), unfolding(crate::specs::values::FreeText::text_of))]
     pub fn read(bytes: &[u8]) -> Option<Text<N>>
         ensures { result ≡ text_of N bytes.now }
     {
@@ -68,7 +68,7 @@ impl<const N: usize> Text<N> {
     /// Writes the text as one word, which reads back as this text: without quotes if it has at least one byte and all
     /// are ASCII letters, digits, `_` or `-`, else in `"`, with a backslash before each `"`, `\` and `'`. It takes no
     /// memory.
-    #[tactic(auto, using(crate::proofs::laws::text::PrintedLaws::text_reads_back, crate::proofs::laws::text::PrintedLaws::lines_read_back, crate::proofs::laws::text::PrintedLaws::quoted_one_line))]
+    #[tactic(auto, using(crate::proofs::laws::text::PrintedLaws::text_reads_back, crate::proofs::laws::text::PrintedLaws::lines_read_back, crate::proofs::laws::text::PrintedLaws::quoted_one_line,),)]
     pub fn put<W: Write>(&self, output: &mut Tap<W>) -> Result<(), WriteFailed>
         ensures puts { Puts W.contents output.old output.new result (quoted self.now) }
 

@@ -2,7 +2,7 @@
 ghost use Rattle.std.specs.Prelude.{◌≡◌, ℕ, ◌<◌, ◌≤◌, ◌&&◌, nat_le, Some, IfSome, false, IfOk};
 ghost use Rattle.fields.specs.numbers.Field.{icmp_top};
 ghost use Rattle.fields.specs.numbers.Spans.{has};
-ghost use Rattle.fields.specs.values.PacketIcmp.{packet_icmp_of};
+ghost use Rattle.fields.specs.values.Icmp.{packet_icmp_of};
 ghost use Rattle.fields.specs.text.Tap.{has_failed, Puts};
 
 use crate::numbers::field::ICMP_TOP;
@@ -50,7 +50,7 @@ static NAMES: [(&[u8], Asked); 18] = [
 
 impl Asked {
     ghost use Rattle.fields.specs.values.Icmp.{icmp_names, asked_by_name, asked_type, asked_by_numbers, icmp_of, IsAsked};
-    ghost use Rattle.fields.specs.steps.IcmpTable.{icmp_rows};
+    ghost use Rattle.fields.specs.steps.Tables.{icmp_rows};
 
     // The rows of the table of names.
     fn rows() -> &'static [(&'static [u8], Asked)]
@@ -213,7 +213,7 @@ impl IcmpType {
 
 /// The number on the field `icmp` that a packet line's `type/code` writes, each from 0 to 255: the type times 256, plus
 /// the code.
-#[tactic(auto, unfolding(crate::specs::values::PacketIcmp::packet_icmp_of))]
+#[tactic(auto, unfolding(crate::specs::values::Icmp::packet_icmp_of))]
 pub(crate) fn read_packet_icmp(text: &[u8]) -> Option<u16>
     ensures { result ≡ packet_icmp_of text.now }
 {

@@ -118,7 +118,7 @@ impl IfPattern {
 
     /// The first and the last number of an interface of which the pattern holds. It holds of all
     /// between them, and of no other.
-    #[tactic(auto, using(crate::proofs::laws::values::InterfaceNameLaws::names_hold), unfolding(crate::specs::values::Interface::interface_interval))]
+    #[tactic(auto, using(crate::proofs::laws::values::InterfaceLaws::names_hold), unfolding(crate::specs::values::Interface::interface_interval))]
     pub(crate) fn interval(&self) -> (u128, u128)
         ensures value { result ≡ interface_interval self.now }
         ensures exact { (value : ℕ) → value < 2 ^ 128

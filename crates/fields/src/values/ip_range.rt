@@ -81,7 +81,7 @@ impl IpRange {
     }
 
     /// Writes `from-to`, both ends always. That text reads back as this range. It takes no memory.
-    #[tactic(auto, using(crate::proofs::laws::values::IpRangeLaws::reads_back))]
+    #[tactic(auto, using(crate::proofs::laws::values::PrefixLaws::reads_back))]
     pub fn put<W: Write>(self, output: &mut Tap<W>) -> Result<(), WriteFailed>
         ensures text { Puts W.contents output.old output.new result (ip_range_text self) }
         ensures reads_back { ip_range_of (ip_range_text self) ≡ Some self }

@@ -2,7 +2,7 @@
 ghost use Rattle.std.specs.Prelude.{◌≡◌, false, IsTrue, option_map};
 ghost use Rattle.std.specs.Str.{str_eq_ignore_ascii_case};
 ghost use Rattle.fields.specs.values.NameList.{row_named, number_named, set_listed, names_listed};
-ghost use Rattle.fields.specs.steps.NamedFlags.{rows_of, all_have_names};
+ghost use Rattle.fields.specs.steps.Tables.{rows_of, all_have_names};
 ghost use Rattle.fields.specs.text.Tap.{has_failed, Puts};
 
 use crate::text::cut::cut_at;

@@ -4,7 +4,7 @@ ghost use Rattle.fields.specs.numbers.Field.{port_top};
 ghost use Rattle.fields.specs.numbers.Spans.{has};
 ghost use Rattle.fields.specs.values.PortRange.{ports_text};
 ghost use Rattle.fields.specs.values.PortList.{port_item_of, port_count, port_list_of, IsPortList, port_list_text, list_has_port};
-ghost use Rattle.fields.specs.steps.PortItems.{item_within};
+ghost use Rattle.fields.specs.steps.ValueParts.{item_within};
 ghost use Rattle.fields.specs.text.Printed.{IsBareWord};
 ghost use Rattle.fields.specs.text.Tap.{has_failed, Puts};
 
@@ -62,7 +62,7 @@ fn read_item(text: &[u8]) -> Option<PortRange>
 }
 
 // The item, where it counts as so many ports at most.
-#[tactic(auto, unfolding(crate::specs::steps::PortItems::item_within))]
+#[tactic(auto, unfolding(crate::specs::steps::ValueParts::item_within))]
 fn read_item_within(text: &[u8], room: usize) -> Option<PortRange>
     ensures { result ≡ item_within room text.now }
 {

@@ -1,10 +1,9 @@
 //! IPv4 addresses with a prefix length.
-ghost use Rattle.std.specs.Prelude.{◌≡◌, ℕ, ◌<◌, ◌≤◌, ◌+◌, ◌^◌, ◌∷◌, ◌++◌, [], drop, length, decimal, Option, Some, None, IfSome, option_map, IfOk};
+ghost use Rattle.std.specs.Prelude.{◌≡◌, ℕ, ◌<◌, ◌≤◌, ◌+◌, ◌^◌, ◌∷◌, ◌++◌, [], drop, length, decimal, Option, Some, None, IfSome, option_map, IfOk, ◌-◌, true, false};
 ghost use Rattle.fields.specs.numbers.Field.{address_top};
 ghost use Rattle.fields.specs.numbers.Spans.{has};
-ghost use Rattle.std.specs.Prelude.{◌-◌, true, false};
 ghost use Rattle.std.specs.Char.{is_ascii_digit};
-ghost use Rattle.fields.specs.steps.Octets.{address_by_octets, octet_at_front};
+ghost use Rattle.fields.specs.steps.ValueParts.{address_by_octets, octet_at_front};
 ghost use Rattle.fields.specs.text.Tap.{has_failed, Puts};
 ghost use Rattle.fields.specs.values.Prefix.{Network, IsNetwork, IsAddressText, IsPrefixText, block_size, netmask, mask_length, network, address_of, length_of, prefix_of, address_text, prefix_text, octets, holds};
 
@@ -124,7 +123,7 @@ fn three_digits_at_front(text: &[u8]) -> Option<(u32, &[u8])>
 
 // The number up to 255 before the first dot, and what follows the dot.
 #[inline(always)]
-#[tactic(auto, unfolding(crate::specs::steps::Octets::octet_at_front))]
+#[tactic(auto, unfolding(crate::specs::steps::ValueParts::octet_at_front))]
 fn octet_at_front(text: &[u8]) -> Option<(u32, &[u8])>
     ensures value { option_map (λ p. (p.0, p.1.now)) result ≡ octet_at_front text.now }
     ensures small { IfSome result (λ p. p.0 ≤ 255) }
@@ -144,7 +143,7 @@ fn octet_at_front(text: &[u8]) -> Option<(u32, &[u8])>
 }
 
 // Four numbers up to 255 with dots.
-#[tactic(auto, unfolding(crate::specs::steps::Octets::address_by_octets))]
+#[tactic(auto, unfolding(crate::specs::steps::ValueParts::address_by_octets))]
 fn dotted_value(text: &[u8]) -> Option<u32>
     ensures { result ≡ address_by_octets text.now }
 {
@@ -156,7 +155,7 @@ fn dotted_value(text: &[u8]) -> Option<u32>
 }
 
 /// The number of a dotted address `a.b.c.d`, of which `a` is the most significant byte.
-#[tactic(auto, using(crate::proofs::laws::values::PrefixLaws::address_of_only, crate::proofs::laws::values::PrefixLaws::address_of_complete, crate::proofs::laws::values::OctetLaws::address_of_octets))]
+#[tactic(auto, using(crate::proofs::laws::values::PrefixLaws::address_of_only, crate::proofs::laws::values::PrefixLaws::address_of_complete, crate::proofs::laws::values::PrefixLaws::address_of_octets,),)]
 pub fn read_address(text: &[u8]) -> Option<u32>
     ensures value { result ≡ address_of text.now }
     ensures sound { IfSome result (λ a. IsAddressText text.now a) }

@@ -3,7 +3,7 @@ ghost use Rattle.std.specs.Prelude.{◌≡◌, ◌≤◌, ◌<◌, ◌↔◌, Is
 ghost use Rattle.fields.specs.numbers.Field.{protocol_top};
 ghost use Rattle.fields.specs.numbers.Spans.{has};
 ghost use Rattle.fields.specs.values.Protocol.{protocols, number_in, name_in, protocol_number, protocol_name, one_protocol_of, protocol_of, protocol_text};
-ghost use Rattle.fields.specs.steps.ProtocolTable.{entries_of};
+ghost use Rattle.fields.specs.steps.Tables.{entries_of};
 ghost use Rattle.fields.specs.text.Printed.{IsBareWord};
 ghost use Rattle.fields.specs.text.Tap.{Puts};
 
@@ -136,7 +136,7 @@ impl Protocol {
 
     /// Writes the first name of the protocol, else its number. That text reads back as this protocol, and needs no
     /// quotes. It takes no memory.
-    #[tactic(auto, using(crate::proofs::laws::values::ProtocolLaws::reads_back, crate::proofs::laws::values::BareLaws::protocol_is_bare), unfolding(crate::specs::values::Protocol::protocol_text, crate::specs::values::Protocol::protocol_name))]
+    #[tactic(auto, using(crate::proofs::laws::values::ProtocolLaws::reads_back, crate::proofs::laws::values::BareLaws::protocol_is_bare,), unfolding(crate::specs::values::Protocol::protocol_text, crate::specs::values::Protocol::protocol_name,),)]
     pub fn put<W: Write>(self, output: &mut Tap<W>) -> Result<(), WriteFailed>
         ensures puts { Puts W.contents output.old output.new result (protocol_text self) }
         ensures word { IsBareWord (protocol_text self) }

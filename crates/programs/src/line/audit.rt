@@ -2,8 +2,8 @@
 ghost use Rattle.std.specs.Prelude.{◌≡◌, IfErr, IfOk, MatchOption, codes, false, map};
 ghost use Rattle.clap.specs.Words.{app_of, found_of, rows_of, rule_of};
 ghost use Rattle.clap.specs.declared.builder.command.Command.TheViews.{out-Command as fields_of};
-ghost use Rattle.programs.specs.line.AuditLine.{IsAuditOf, IsQuestion, IsSubcommand, LacksFile, compare_app, file_rule, json_rule, local_rule, one_file_app, program_app, reach_app, steps_rule, unknown_rule, values_of, when_rule, with_options, with_whole_options, words_rule};
-ghost use Rattle.programs.specs.line.Line.{AsksFor, IsFaultOn};
+ghost use Rattle.programs.specs.AuditLine.{IsAuditOf, IsQuestion, IsSubcommand, LacksFile, compare_app, file_rule, json_rule, local_rule, one_file_app, program_app, reach_app, steps_rule, unknown_rule, values_of, when_rule, with_options, with_whole_options, words_rule};
+ghost use Rattle.programs.specs.Line.{AsksFor, IsFaultOn};
 
 use super::fault::LineFault;
 use super::program::{flag, is_set, named, parse, with};

@@ -1,6 +1,6 @@
 //! The faults of a command line.
 ghost use Rattle.std.specs.Prelude.{◌≡◌};
-ghost use Rattle.programs.specs.line.Line.{StandsFor};
+ghost use Rattle.programs.specs.Line.{StandsFor};
 
 use clap::Error;
 use clap::error::ErrorKind;

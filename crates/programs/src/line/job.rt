@@ -2,8 +2,8 @@
 ghost use Rattle.std.specs.Prelude.{◌≡◌, IfErr, IfOk, false, map};
 ghost use Rattle.clap.specs.Words.{app_of, found_of, rows_of, rule_of};
 ghost use Rattle.clap.specs.declared.builder.command.Command.TheViews.{out-Command as fields_of};
-ghost use Rattle.programs.specs.line.JobLine.{IsJobOf, IsSubcommand, LacksFile, load_rule, program_app, restore_app, session_app};
-ghost use Rattle.programs.specs.line.Line.{AsksFor, IsFaultOn};
+ghost use Rattle.programs.specs.JobLine.{IsJobOf, IsSubcommand, LacksFile, load_rule, program_app, restore_app, session_app};
+ghost use Rattle.programs.specs.Line.{AsksFor, IsFaultOn};
 
 use super::fault::LineFault;
 use super::program::{flag, is_set, named, parse, with};

@@ -3,7 +3,7 @@
 ghost use Rattle.std.specs.Prelude.{◌≡◌, [], IfErr, IfOk, false, map, true};
 ghost use Rattle.clap.specs.Words.{HasMatchesOf, app_of, fault_of as kinds_of, first_of, found_of, is_simple_and_free, new_app, rows_of, rule_of, with_subcommand};
 ghost use Rattle.clap.specs.declared.builder.command.Command.TheViews.{out-Command as fields_of};
-ghost use Rattle.programs.specs.line.Line.{IsRefusal, as_program, flag_rule, is_true};
+ghost use Rattle.programs.specs.Line.{IsRefusal, as_program, flag_rule, is_true};
 
 use super::VERSION;
 use super::fault::{LineFault, fault_of};

@@ -1,21 +1,58 @@
--- Answers: which assignments give them, and what they tell of a rule's needs.
-use Rattle.std.proofs.Common.{◌≡◌, ◌≢◌, ◌⊎◌, inl, inr, ℕ, zero, suc, ◌+◌, ◌<◌, ◌≤◌, Bool, true, false, cond, not, List, [], ◌∷◌, ◌++◌, length, get_or, refl, sym, ◌∙◌, arith, subst, Option, Some, None, Any, Contains}
+-- Answers: which assignments give them, which conditions they are about, and what they tell of a rule's needs.
+use Rattle.std.proofs.Common.{◌≡◌, ◌≢◌, ℕ, zero, suc, ◌+◌, ◌<◌, List, [], ◌∷◌, ◌++◌, length, get_or, take, refl, sym, ◌∙◌, ap, arith, subst, ◌⊎◌, inl, inr, ◌≤◌, Bool, true, false, cond, not, Option, Some, None, Any, Contains, All}
 use Rattle.std.specs.Prelude.{nat_eq}
+use Rattle.std.proofs.lemmas.List.{get_or-take, get_or_default, length-take, get_or_append_left, length-append}
 use Rattle.std.specs.Option.{option_or}
 use Rattle.std.proofs.Math.Bool.{beq}
 use Rattle.std.proofs.lemmas.Bool.{cases_Bool, cond-false, cond-true, true≢false}
 use Rattle.std.proofs.lemmas.Bool.Decides.{eqb_tells}
-use Rattle.std.proofs.lemmas.List.{get_or_append_left, get_or_default, length-append}
-use Rattle.std.proofs.lemmas.List.Elements.{All-contains, All-push, Contains-push}
+use Rattle.std.proofs.lemmas.List.Elements.{All-contains, All-push, Contains-push, All-cons, All-nil, Contains-get_or}
 use Rattle.std.proofs.lemmas.List.Quantifiers.{all_pairs_push}
 use Rattle.std.proofs.lemmas.List.Folds.{list_all_at}
 use Rattle.std.proofs.lemmas.List.Sums.{list_all-from_AllPass}
-use Rattle.questions.specs.Foreign.{Agrees, AreConsistent, Assignment, IsUnanswered, all_hold, need_holds}
-use Rattle.questions.specs.declared.foreign.need.Need.{Need}
+use Rattle.fields.specs.declared.packet.hook.Hook.{Hook}
+use Rattle.questions.specs.Foreign.{AreConsistent, IsUnanswered, Agrees, Assignment, all_hold, need_holds, AreAsked, IsNeeded}
 use Rattle.questions.specs.declared.foreign.answers.Answer.{Answer}
+use Rattle.questions.specs.declared.foreign.need.Need.{Need}
 use Rattle.questions.specs.declared.foreign.need.Standing.TheVariants.{Holds, Open}
 use Rattle.questions.specs.steps.Answered.{IsMet, IsStanding, MeetsNever}
+use Rattle.questions.specs.steps.Waiting.{AllAsked}
+use Rattle.questions.specs.declared.walking.front.Front.{Front}
+use Rattle.questions.specs.declared.walking.scope.Scope.{Scope}
+use Rattle.questions.specs.declared.walking.task.Leaf.{Leaf}
+use Rattle.questions.specs.declared.walking.task.Task.{Task}
+use Rattle.questions.specs.steps.Taken.{IsFirst}
 use Rattle.questions.proofs.laws.TrailLaws.{items_next}
+
+-- ---- The first elements of a list, and the first of some answers.
+
+take_more : {X : Type 0} (xs : List X) (i : ℕ) (d : X) → i < length xs → take (suc i) xs ≡ take i xs ++ get_or xs i d ∷ []
+take_more [] i d lt = absurd (omega (arith, lt))
+take_more (x ∷ xs) zero d lt = refl
+take_more {X} (x ∷ xs) (suc i) d lt = ap (λ (l : List X). x ∷ l) (take_more xs i d (omega (arith, lt)))
+
+-- one more of them
+pub take_next : {X : Type 0} (xs : List X) (i : ℕ) (d : X) → i < length xs → take (i + 1) xs ≡ take i xs ++ get_or xs i d ∷ []
+take_next xs i d lt =
+    let same : i + 1 ≡ suc i = omega arith in
+    ap (λ (k : ℕ). take k xs) same ∙ take_more xs i d lt
+
+-- the first of them, so many, are consistent
+pub first_consistent : (answers : List Answer) (n : ℕ) → AreConsistent answers → AreConsistent (take n answers)
+first_consistent answers n apart k i e before lt =
+    let in_n : i < n = omega (arith, lt, length-take n answers) in
+    let in_all : i < length answers = omega (arith, lt, length-take n answers) in
+    let C : Answer → Type 0 = λ answer. answer.condition ≢ (get_or (take n answers) i e).condition in
+    subst C (sym (get_or-take n answers k e (omega (arith, before, in_n)))) (subst (λ (answer : Answer). (get_or answers k e).condition ≢ answer.condition) (sym (get_or-take n answers i e in_n)) (apart k i e before in_all))
+
+-- the next one is about another condition than those before it
+pub next_unanswered : (answers : List Answer) (i : ℕ) (d : Answer) → AreConsistent answers → i < length answers → IsUnanswered (take i answers) (get_or answers i d).condition
+next_unanswered answers i d apart lt k e less =
+    let before : k < i = omega (arith, less, length-take i answers) in
+    let C : Answer → Type 0 = λ answer. answer.condition ≢ (get_or answers i d).condition in
+    subst C (sym (get_or-take i answers k e before)) (subst (λ (answer : Answer). (get_or answers k e).condition ≢ answer.condition) (get_or_default answers i e d lt) (apart k i e before lt))
+
+-- ---- Answers: which assignments give them, and what they tell of a rule's needs.
 
 -- an answer
 abbrev about : ℕ → Bool → Answer
@@ -188,3 +225,27 @@ one_holds a needs seen d within before here =
 pub wanted_holds : (a : Assignment) (need : Need) (answers : List Answer) → Agrees a (answers ++ about need.condition (not need.inverted) ∷ []) → need_holds a need ≡ true
 wanted_holds a need answers agrees =
     as_needed need.inverted (a need.condition) (is_given a (answers ++ about need.condition (not need.inverted) ∷ []) need.condition (not need.inverted) agrees (Contains-push answers (about need.condition (not need.inverted))))
+
+-- ---- Answers that were given, or are about conditions that some rule needs.
+
+-- with one answer more
+pub asked_more : (needs : List (List (List Need))) (given answers more : List Answer) (answer : Answer) → more ≡ answers ++ answer ∷ [] → AreAsked needs given answers → IsNeeded needs answer.condition → AreAsked needs given more
+asked_more needs given answers more answer is own need =
+    let Asked : Answer → Type 0 = λ a. Contains given a ⊎ IsNeeded needs a.condition in
+    subst (All Asked) (sym is) (All-push Asked answers answer own (inr need))
+
+-- those that are given
+pub asked_all : (needs : List (List (List Need))) (given : List Answer) → AreAsked needs given given
+asked_all needs given k d lt = inl (Contains-get_or given k d lt)
+
+-- a box at the first rule of a hook's chain
+pub asked_first : (needs : List (List (List Need))) (hook : Hook) (start : Scope) (front : Front) → IsFirst hook start front → AllAsked needs start.answers front
+asked_first needs hook start front first =
+    let Tasks : Task → Type 0 = λ task. AreAsked needs start.answers task.scope.answers in
+    let Leaves : Leaf → Type 0 = λ leaf. AreAsked needs start.answers leaf.answers in
+    let P : Scope → Type 0 = λ scope. AreAsked needs start.answers scope.answers in
+    let own : Tasks first.task = subst P (sym first.stands) (asked_all needs start.answers) in
+    record {
+      tasks = subst (All Tasks) (sym first.tasks) (All-cons Tasks first.task [] own (All-nil Tasks));
+      leaves = subst (All Leaves) (sym first.leaves) (All-nil Leaves);
+    }

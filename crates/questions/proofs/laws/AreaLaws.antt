@@ -15,17 +15,16 @@ use Rattle.fields.specs.declared.numbers.spans.Interval.{Interval}
 use Rattle.fields.specs.declared.packet.hook.Hook.{Hook}
 use Rattle.fields.specs.numbers.Field.{all_fields, index, number_on, top}
 use Rattle.fields.specs.numbers.Spans.{AreSpansFrom, SpanSet, has}
-use Rattle.fields.specs.packet.Keys.{comes_in, goes_out}
-use Rattle.fields.specs.packet.Packet.{PacketView, IsPacket, point}
-use Rattle.rules.specs.boxing.Boxed.{IsBox, IsBoxOf, set_on}
+use Rattle.fields.specs.Packet.{comes_in, goes_out, PacketView, IsPacket, point}
+use Rattle.rules.specs.Boxed.{IsBox, IsBoxOf, set_on}
 use Rattle.rules.specs.rule.Allows.{allows, allows_each, matches}
 use Rattle.rules.specs.rule.Crossing.{cross, HavePorts}
 use Rattle.rules.specs.rule.Rules.{Rule}
-use Rattle.rules.proofs.laws.boxing.BoxLaws.{index-lt, here_is, box_long, top_on}
-use Rattle.rules.proofs.laws.rule.PortLaws as ports
-use Rattle.classify.specs.classifier.Classifier.{IsPoint, box_allows, box_matches}
+use Rattle.rules.proofs.laws.BoxLaws.{index-lt, here_is, box_long, top_on}
+use Rattle.rules.proofs.laws.rule.CrossLaws as ports
+use Rattle.classify.specs.Classifier.{IsPoint, box_allows, box_matches}
 use Rattle.classify.proofs.laws.classifier.ClassifierLaws.{field_at}
-use Rattle.questions.specs.boxes.Area.{Has, HasNumbers, HasOwnInterfaces, IsAtHook, IsBoth, IsIn, IsNarrowed, may_have, is_without}
+use Rattle.questions.specs.boxes.Boxes.{Has, HasNumbers, HasOwnInterfaces, IsAtHook, IsBoth, IsIn, IsNarrowed, may_have, is_without}
 use Rattle.questions.specs.boxes.Cut.{IsInSome, IsApart, IsCut, IsPartedFor}
 use Rattle.questions.specs.steps.Sides.{no_set, has_at, takes, HasOne, IsSide, IsPart, IsBeginning, LeavesAt}
 

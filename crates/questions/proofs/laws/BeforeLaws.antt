@@ -1,14 +1,13 @@
 -- A packet comes to a rule if all that it may meet before leaves it where it may be.
 use Rattle.std.proofs.Common.{◌≡◌, ◌⊎◌, inl, inr, ℕ, zero, suc, ◌+◌, ◌-◌, ◌<◌, ◌≤◌, true, List, [], ◌∷◌, length, get_or, refl, sym, ◌∙◌, ap, arith, subst, Option, Some, None, Contains, IsTrue}
-use Rattle.std.specs.Prelude.{◌≢◌, IsFalse}
+use Rattle.std.specs.Prelude.{◌≢◌, IsFalse, ◌&&◌}
 use Rattle.std.specs.List.{position}
-use Rattle.std.specs.Prelude.{◌&&◌}
 use Rattle.std.proofs.Math.Dec.{eqb}
 use Rattle.std.proofs.lemmas.Bool.{and_parts, cases_Bool, cases_lt, eqb-true, true≢false}
 use Rattle.std.proofs.lemmas.List.Elements.{Contains-append_left, Contains-push}
 use Rattle.std.proofs.lemmas.Option.{get_or_from_slice_get, slice_get-get_or, slice_get_within}
-use Rattle.fields.specs.packet.Hook.{name as hook_name}
-use Rattle.fields.specs.packet.Packet.{PacketView as Packet}
+use Rattle.fields.specs.Hook.{name as hook_name}
+use Rattle.fields.specs.Packet.{PacketView as Packet}
 use Rattle.rules.specs.declared.rule.target.Target.{Target}
 use Rattle.rules.specs.declared.rule.target.Target.TheVariants as target
 use Rattle.rules.specs.rule.Actions.{target_of}
@@ -34,12 +33,11 @@ use Rattle.questions.specs.declared.foreign.need.Need.{Need}
 use Rattle.questions.specs.declared.foreign.subject.Subject.{Subject}
 use Rattle.questions.specs.steps.Before.{AreMetBefore, IsMetThere, LeavesThere, StaysThere, step_at, IsSought}
 use Rattle.questions.specs.steps.Lengths.{number_of}
-use Rattle.questions.specs.steps.Meant.{needs_of}
+use Rattle.questions.specs.steps.Takers.{needs_of}
 use Rattle.questions.specs.steps.Straying.{place_of}
-use Rattle.questions.proofs.laws.EndLaws.{none_some}
+use Rattle.questions.proofs.laws.TrailLaws.{none_some}
 use Rattle.questions.proofs.laws.LengthLaws.{hook_number}
-use Rattle.questions.proofs.laws.NeverLaws.{never_matches}
-use Rattle.questions.proofs.laws.ResolvedLaws.{count_left, entry_left, names_same, resolved_is, resolved_not, rule_at_left, same_position}
+use Rattle.questions.proofs.laws.ResolvedLaws.{never_matches, count_left, entry_left, names_same, resolved_is, resolved_not, rule_at_left, same_position}
 
 -- ---- one packet's walk
 

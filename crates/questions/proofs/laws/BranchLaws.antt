@@ -1,35 +1,176 @@
--- What becomes of the packets of a box at a rule, once it is known which conditions hold.
-use Rattle.std.proofs.Common.{◌≡◌, ◌⊎◌, inl, inr, ℕ, ◌+◌, ◌-◌, ◌<◌, true, false, List, [], ◌∷◌, ◌++◌, length, get_or, refl, sym, ◌∙◌, ap, arith, subst, Option, Some, None, IsTrue}
-use Rattle.std.proofs.lemmas.Bool.{cases_Bool, true≢false}
-use Rattle.std.proofs.lemmas.List.Elements.{Contains-push}
-use Rattle.fields.specs.numbers.Spans.{SpanSet}
-use Rattle.rules.specs.declared.rule.target.Target.{Target}
-use Rattle.rules.specs.declared.rule.target.Target.TheVariants as target
-use Rattle.rules.specs.rule.Actions.{target_of}
-use Rattle.rules.specs.rule.Rules.{Rule}
-use Rattle.table.specs.chains.Sound.{IsSound}
-use Rattle.table.specs.chains.Table.{Table, chain_at}
-use Rattle.table.specs.declared.verdict.Verdict.{Verdict}
-use Rattle.table.specs.declared.walk.trail.Step.{Step}
+-- What becomes of the packets of a box at a rule and at the rules ahead of it in a chain.
+use Rattle.std.proofs.Common.{◌≡◌, ◌⊎◌, inl, inr, ℕ, zero, suc, ◌+◌, ◌-◌, ◌<◌, ◌≤◌, false, List, [], ◌∷◌, ◌++◌, length, refl, sym, ◌∙◌, ap, arith, subst, Option, Some, None, get_or, Vec, Global, true, IsTrue}
+use Rattle.std.specs.Prelude.{slice_get, IsFalse}
+use Rattle.std.proofs.lemmas.Bool.{cases_lt, cases_Bool, true≢false}
+use Rattle.std.proofs.lemmas.List.{get_or_default}
+use Rattle.std.proofs.lemmas.List.Elements.{Contains-get_or, Contains-push}
+use Rattle.std.proofs.lemmas.Option.{slice_get-get_or, get_or_from_slice_get}
+use Rattle.rules.specs.rule.Allows.{matches}
+use Rattle.rules.specs.rule.Rules.{Rule, empty_rule}
+use Rattle.table.specs.chains.Table.{Chain, Table, rules_of, chain_at, empty_chain}
 use Rattle.table.specs.walk.Cases.{Stage, Under, on_by}
-use Rattle.table.specs.walk.Walk.{Entry, GoesOn, Next, Rest, after_match}
-use Rattle.questions.specs.Foreign.{Agrees, Assignment, all_hold, needs_at, never}
-use Rattle.questions.specs.Scopes.{Known, answered, entries_by, is_met, known_by, table_of, under}
-use Rattle.questions.specs.boxes.Cut.{IsApart, IsCut, IsPartedFor}
-use Rattle.questions.specs.declared.foreign.answers.Answer.{Answer}
+use Rattle.table.specs.walk.Walk.{Rest, Entry, GoesOn, Next, after_match}
+use Rattle.fields.specs.numbers.Spans.{SpanSet}
+use Rattle.fields.specs.Packet.{PacketView as Packet}
+use Rattle.table.specs.chains.Sound.{IsSound}
+use Rattle.table.specs.declared.walk.trail.Step.{Step}
+use Rattle.table.proofs.laws.chains.KeepLaws.{rules_by_name}
+use Rattle.rules.specs.declared.rule.target.Target.{Target}
+use Rattle.rules.specs.rule.Actions.{target_of}
+use Rattle.table.specs.declared.verdict.Verdict.{Verdict}
+use Rattle.rules.specs.declared.rule.target.Target.TheVariants as target
+use Rattle.questions.specs.steps.Straying.{NoneMatches, PassesAtOnce, IsApartIn, Stays, CanFollow}
+use Rattle.questions.specs.steps.Waiting.{Reaches, IsThere, rest_of, rule_ahead, WaitsIn, rests_of, Moves, PassesOver, behind, entry_before}
+use Rattle.questions.specs.Foreign.{Assignment, needs_at, resolved, Agrees, all_hold, never}
+use Rattle.questions.specs.Leaves.{name_at}
+use Rattle.questions.specs.boxes.Boxes.{IsAtHook, IsIn}
 use Rattle.questions.specs.declared.foreign.need.Need.{Need}
-use Rattle.questions.specs.declared.foreign.subject.Subject.{Subject}
-use Rattle.questions.specs.declared.walking.front.Front.{Front}
 use Rattle.questions.specs.declared.walking.scope.Scope.{Scope}
 use Rattle.questions.specs.declared.walking.task.Pending.{Pending}
-use Rattle.questions.specs.steps.Ahead.{Stays}
-use Rattle.questions.specs.steps.Branches.{CanFollow}
-use Rattle.questions.specs.steps.Waiting.{IsThere, Moves, PassesOver, behind, entry_before, rest_of}
+use Rattle.questions.specs.Scopes.{IsOf, Known, entries_by, answered, is_met, known_by, table_of, under}
+use Rattle.questions.specs.declared.walking.task.Task.{Task}
+use Rattle.questions.specs.boxes.Cut.{IsApart, IsCut, IsPartedFor}
+use Rattle.questions.specs.declared.foreign.answers.Answer.{Answer}
+use Rattle.questions.specs.declared.foreign.subject.Subject.{Subject}
+use Rattle.questions.specs.declared.walking.front.Front.{Front}
+use Rattle.questions.proofs.laws.WaitLaws.{reaches_more, rests_push, apart_moves, cut_moves, cut_parts, handed_moves, moves_same, never_parts, only_one, parted_moves, wrong_moves, wrong_passes}
 use Rattle.questions.proofs.laws.ForeignLaws.{left_sound}
-use Rattle.questions.proofs.laws.HeldLaws.{few_entries, held_trail, missed_trail, step_before}
-use Rattle.questions.proofs.laws.NeverLaws.{never_apart, never_matches}
-use Rattle.questions.proofs.laws.ResolvedLaws.{passed_left, rule_goes, rule_stays, there_left}
-use Rattle.questions.proofs.laws.WaitLaws.{apart_moves, cut_moves, cut_parts, handed_moves, moves_same, never_parts, only_one, parted_moves, wrong_moves, wrong_passes}
+use Rattle.questions.proofs.laws.ResolvedLaws.{resolved_apart, rule_left, there_left, passed_left, rule_goes, rule_stays, never_apart, never_matches}
+use Rattle.questions.proofs.laws.TrailLaws.{few_entries, held_trail, missed_trail, step_before}
+
+-- ---- Rules ahead of a walk in a chain that are passed at once.
+
+-- a place of a list has an element, or is past its end
+here_or_past : (rules : List Rule) (k : ℕ) → k < length rules → (rule : Rule) × (slice_get rules k ≡ Some rule)
+here_or_past rules k lt = (_, slice_get-get_or rules k empty_rule lt)
+
+-- ---- rules that don't match
+
+passes_some : (t : Table) (p : Packet) (chain : List ℕ) (waiting : List Rest) (trail : List Entry) (n : ℕ) (passed : ℕ) → passed + n ≤ length (rules_of t.chains chain)
+    → NoneMatches t.chains p.values (record { chain = chain; passed = passed }) (passed + n) → Reaches t p (Under (record { chain = chain; passed = passed } ∷ waiting) trail)
+    → Reaches t p (Under (record { chain = chain; passed = passed + n } ∷ waiting) trail)
+passes_some t p chain waiting trail zero passed le none r =
+    let to : ℕ → Stage = λ k. Under (record { chain = chain; passed = k } ∷ waiting) trail in
+    let P : ℕ → Type 0 = λ k. Reaches t p (to k) in
+    subst P (omega arith) r
+passes_some t p chain waiting trail (suc n) passed le none r =
+    let to : ℕ → Stage = λ k. Under (record { chain = chain; passed = k } ∷ waiting) trail in
+    let P : ℕ → Type 0 = λ k. Reaches t p (to k) in
+    let next = here_or_past (rules_of t.chains chain) passed (omega (arith, le)) in
+    let step : Reaches t p (to (passed + 1)) = reaches_more t p (to passed) (to (passed + 1)) r (inl (next.0, next.1, none passed next.0 (omega arith) (omega arith) next.1, refl)) in
+    subst P (omega arith) (passes_some t p chain waiting trail n (passed + 1) (omega (arith, le)) (λ k rule low high at. none k rule (omega (arith, low)) (omega (arith, high)) at) step)
+
+pub passes_at_once : PassesAtOnce
+passes_at_once t p rest place waiting trail low high none r =
+    let n : ℕ = place - rest.passed in
+    let e : rest.passed + n ≡ place = omega (arith, low) in
+    let to : ℕ → Stage = λ k. Under (record { chain = rest.chain; passed = k } ∷ waiting) trail in
+    let P : ℕ → Type 0 = λ k. Reaches t p (to k) in
+    subst P e (passes_some t p rest.chain waiting trail n rest.passed (omega (arith, e, high)) (λ k rule lo hi at. none k rule lo (omega (arith, e, hi)) at) r)
+
+-- ---- the next rule
+
+-- a rule that was asked for is the next one
+pub rule_here : (t : Table) (at : Pending) (rule : Rule) → at.passed < length (chain_at t at.chain).rules → rule ≡ get_or (chain_at t at.chain).rules (at.passed + 1 - 1) rule → rule ≡ rule_ahead t at
+rule_here t at rule lt is =
+    is ∙ ap (λ j. get_or (chain_at t at.chain).rules j rule) (omega arith) ∙ get_or_default (chain_at t at.chain).rules at.passed rule empty_rule lt
+
+-- rules of a chain, once it is known which conditions hold
+module _ (needs : List (List (List Need))) (a : Assignment) (t : Table) (at : Pending) (sound : IsSound t) (there : IsThere t.chains at) where
+  abbrev left : Table
+  left = resolved needs a t
+
+  abbrev own : List Rule
+  own = (chain_at left at.chain).rules
+
+  abbrev next : ℕ → Pending
+  next k = record { chain = at.chain; passed = k }
+
+  same : rules_of left.chains (name_at left.chains at.chain) ≡ own
+  same = rules_by_name left (chain_at left at.chain) (left_sound needs a t sound) (Contains-get_or left.chains at.chain (empty_chain []) (there_left needs a t at.chain there))
+
+  get : (k : ℕ) → slice_get (rules_of left.chains (name_at left.chains at.chain)) k ≡ slice_get own k
+  get k = ap (λ (rs : List Rule). slice_get rs k) same
+
+  -- one that matches none of two boxes still matches none
+  pub still_apart : (start box : List SpanSet) (k : ℕ) → k < length (chain_at t at.chain).rules → IsApartIn (rule_ahead t (next k)) start box → IsApartIn (rule_ahead left (next k)) start box
+  still_apart start box k within apart = λ numbers point first has.
+      (let P : Rule → Type 0 = λ r. matches numbers r ≡ false in
+      subst P (sym (rule_left needs a t at.chain k there within empty_rule)) (resolved_apart a (needs_at needs at.chain k) (rule_ahead t (next k)) numbers (apart numbers point first has)))
+
+-- what holds from a place up to another one, and there
+pub below_next : (P : ℕ → Type 0) (low n : ℕ) → ((k : ℕ) → low ≤ k → k < n → P k) → P n → (k : ℕ) → low ≤ k → k < n + 1 → P k
+below_next P low n below here k lo hi =
+    elim (cases_lt k n) [
+      | inl lt ↦ below k lo lt
+      | inr le ↦ subst P (omega (arith, le, hi)) here
+    ]
+
+-- and up to the next one, where it holds in between
+pub past_next : (P : ℕ → Type 0) (low n next : ℕ) → ((k : ℕ) → low ≤ k → k < n + 1 → P k) → ((k : ℕ) → n + 1 ≤ k → k < next → P k) → (k : ℕ) → low ≤ k → k < next → P k
+past_next P low n next below between k lo hi =
+    elim (cases_lt k (n + 1)) [
+      | inl lt ↦ below k lo lt
+      | inr le ↦ between k le hi
+    ]
+
+-- ---- the newest rest
+
+split_last : (xs : List Pending) (a : Pending) → slice_get xs (length xs - 1) ≡ Some a → (init : List Pending) × (xs ≡ init ++ a ∷ [])
+split_last [] a e = absurd (none_some e)
+  where
+    none_some : ◌≡◌ {A = Option Pending} None (Some a) → ⊥
+    none_some e = cc
+split_last (x ∷ []) a e = ([], ap (λ (y : Pending). y ∷ []) (some_is e))
+  where
+    some_is : ◌≡◌ {A = Option Pending} (Some x) (Some a) → x ≡ a
+    some_is e = cc
+split_last (x ∷ y ∷ zs) a e =
+    let i : length (x ∷ y ∷ zs) - 1 ≡ suc (length zs) = omega arith in
+    let j : length (y ∷ zs) - 1 ≡ length zs = omega arith in
+    let r = split_last (y ∷ zs) a (ap (slice_get (y ∷ zs)) j ∙ ap (slice_get (x ∷ y ∷ zs)) (sym i) ∙ e) in
+    (x ∷ r.0, ap (λ (ys : List Pending). x ∷ ys) r.1)
+
+under_rest : (cs : List Chain) (rests init : List Pending) (at : Pending) (es : List Entry) → rests ≡ init ++ at ∷ [] → Under (rests_of cs rests) es ≡ Under (rest_of cs at ∷ rests_of cs init) es
+under_rest cs rests init at es e = ap (λ (rs : List Rest). Under rs es) (ap (rests_of cs) e ∙ rests_push cs init at)
+
+-- the newest rest goes on to a rule, past others that match no packet that the task's box and another one have
+pub advances : (t : Table) (known : Known) (start : List SpanSet) (p : Packet) (sound : IsSound t) (task next : Task) (init : List Pending) (at : Pending) (passed : ℕ) → IsThere t.chains at → IsAtHook p → IsIn start p → task.rests.items ≡ init ++ at ∷ []
+    → next.rests.items ≡ init ++ record { chain = at.chain; passed = passed } ∷ [] → next.scope ≡ task.scope → next.trail ≡ task.trail → at.passed ≤ passed → (passed ≡ at.passed) ⊎ (passed ≤ length (chain_at t at.chain).rules)
+    → ((k : ℕ) → at.passed ≤ k → k < passed → IsApartIn (rule_ahead t (record { chain = at.chain; passed = k })) start task.scope.area) → WaitsIn t known p task → WaitsIn t known p next
+advances t known start p sound task next init at passed there can inside before after scope trail low high none waits =
+    let own : List Rule = (chain_at t at.chain).rules in
+    let same : rules_of t.chains (name_at t.chains at.chain) ≡ own = rules_by_name t (chain_at t at.chain) sound (Contains-get_or t.chains at.chain (empty_chain []) there) in
+    let es : List Entry = entries_by known t.chains task.trail.items in
+    let P : Stage → Type 0 = λ s. Reaches t p s in
+    let Q : Scope → Type 0 = λ b. IsOf known p b in
+    let R : Rule → Type 0 = λ r. IsFalse (matches p.values r) in
+    let apart : (k : ℕ) (rule : Rule) → at.passed ≤ k → k < passed → slice_get (rules_of t.chains (name_at t.chains at.chain)) k ≡ Some rule → IsFalse (matches p.values rule) =
+    λ k rule lo hi found.
+    (let is : get_or own k empty_rule ≡ rule = get_or_from_slice_get own k rule empty_rule (sym (ap (λ (rs : List Rule). slice_get rs k) same) ∙ found) in
+    subst R is (none k lo hi p.values can.packet.within inside waits.own.inside)) in
+    let moved : Reaches t p (Under (rest_of t.chains (record { chain = at.chain; passed = passed }) ∷ rests_of t.chains init) es) =
+    (let stands : Reaches t p (Under (rest_of t.chains at ∷ rests_of t.chains init) es) = subst P (under_rest t.chains task.rests.items init at es before) waits.reaches in
+    elim high [
+      | inl still ↦
+          (let S : ℕ → Type 0 = λ j. Reaches t p (Under (rest_of t.chains (record { chain = at.chain; passed = j }) ∷ rests_of t.chains init) es) in
+          subst S (sym still) stands)
+      | inr le ↦ passes_at_once t p (rest_of t.chains at) passed (rests_of t.chains init) es low (omega (arith, le, ap (λ (rs : List Rule). length rs) same)) apart stands
+    ]) in
+    let there_now : Reaches t p (Under (rests_of t.chains next.rests.items) es) = subst P (sym (under_rest t.chains next.rests.items init (record { chain = at.chain; passed = passed }) es after)) moved in
+    record {
+      own = subst Q (sym scope) waits.own;
+      reaches = subst P (ap (λ (steps : List Step). Under (rests_of t.chains next.rests.items) (entries_by known t.chains steps)) (sym (ap items_of trail))) there_now;
+    }
+  where
+    items_of : Vec Step Global → List Step
+    items_of v = v.items
+
+pub high_left : (at passed count left : ℕ) → left ≡ count → (passed ≡ at) ⊎ (passed ≤ count) → (passed ≡ at) ⊎ (passed ≤ left)
+high_left at passed count left same (inl is) = inl is
+high_left at passed count left same (inr le) = inr (omega (arith, le, same))
+
+-- ---- What becomes of the packets of a box at a rule, once it is known which conditions hold.
 
 -- ---- targets that leave a packet where it is
 

@@ -5,9 +5,9 @@ use Rattle.std.proofs.lemmas.Bool.{cases_eq, cases_lt}
 use Rattle.std.proofs.lemmas.List.{get_or_append_left, get_or_default, get_or_past, get_or_push, get_or-map, length-append, length-map}
 use Rattle.fields.specs.numbers.Spans.{SpanSet}
 use Rattle.rules.specs.rule.Rules.{Rule, empty_rule}
-use Rattle.classify.specs.classifier.Classifier.{IsPoint}
+use Rattle.classify.specs.Classifier.{IsPoint}
 use Rattle.table.specs.chains.Table.{Chain, Table, chain_at, empty_chain}
-use Rattle.questions.specs.boxes.Area.{Has}
+use Rattle.questions.specs.boxes.Boxes.{Has}
 use Rattle.questions.specs.boxes.Cut.{IsApart}
 use Rattle.questions.specs.declared.boxes.candidates.Candidates.{Candidates}
 use Rattle.questions.specs.steps.Candidates.{AreCandidates, AreFor, AreNexts, nexts_at}

@@ -1,32 +1,195 @@
--- Two tables compared by the rules in which they differ.
-use Rattle.std.proofs.Common.{◌≡◌, ◌≢◌, ◌⊎◌, inl, inr, ℕ, zero, suc, Bool, true, List, [], ◌∷◌, get_or, refl, sym, ◌∙◌, ap, arith, subst, Contains}
-use Rattle.std.specs.Prelude.{All, Any, IsFalse}
-use Rattle.std.proofs.lemmas.Bool.{cases_Bool, true≢false}
+-- Two tables compared: what they have in common, and the rules in which they differ.
+use Rattle.std.proofs.Common.{◌≡◌, inl, inr, ℕ, ◌+◌, ◌<◌, ◌≤◌, get_or, arith, subst, List, [], sym, ◌∙◌, ap, All, ◌⊎◌, false, Bor, ◌≢◌, zero, suc, Bool, true, ◌∷◌, refl, Contains}
+use Rattle.std.specs.Prelude.{Any, IsFalse}
+use Rattle.std.proofs.lemmas.Bool.{cases_lt, true≢false, cases_Bool}
+use Rattle.std.proofs.lemmas.List.{get_or_default}
 use Rattle.std.proofs.lemmas.List.Elements.{All-contains, Contains-get_or}
 use Rattle.fields.specs.declared.packet.hook.Hook.{Hook}
-use Rattle.fields.specs.packet.Packet.{PacketView as Packet}
-use Rattle.rules.specs.rule.Allows.{matches}
-use Rattle.table.specs.chains.Table.{Table}
+use Rattle.fields.specs.declared.packet.hook.Hook.TheVariants.{Input, Forward, Output}
+use Rattle.fields.specs.Hook.{all_hooks}
+use Rattle.fields.specs.numbers.Spans.{SpanSet}
 use Rattle.table.specs.declared.walk.trail.Step.{Step}
+use Rattle.table.specs.walk.Walk.{Walked, Entry, end_verdict, walk}
+use Rattle.table.specs.chains.Table.{Table}
+use Rattle.fields.specs.Packet.{PacketView as Packet}
+use Rattle.rules.specs.rule.Allows.{matches}
 use Rattle.table.specs.declared.verdict.Verdict.TheVariants.{TooLong}
-use Rattle.table.specs.walk.Walk.{Entry, end_verdict, walk}
 use Rattle.questions.specs.Ends.{IsRule, rule_at}
-use Rattle.questions.specs.Foreign.{Assignment}
-use Rattle.questions.specs.Leaves.{entry_of}
-use Rattle.questions.specs.Scopes.{Whole, answered, table_of, whole_of}
-use Rattle.questions.specs.asked.Alike.{IsAlwaysSameAt, IsAlwaysSettled}
-use Rattle.questions.specs.asked.Changes.{AreChanges, AreChangesUnder, AreThese, IsUntouched}
-use Rattle.questions.specs.asked.Differing.{IsOfRule, MayDiffer, MayDifferOn}
-use Rattle.questions.specs.asked.Verdicts.{IsAlike, IsSameAt}
-use Rattle.questions.specs.boxes.Area.{IsAtHook}
-use Rattle.questions.specs.declared.asked.changes.Changes.{Changes}
+use Rattle.questions.specs.Foreign.{Agrees, AreConsistent, Assignment}
+use Rattle.questions.specs.asked.Verdicts.{IsOtherAt, IsOther, IsSame, IsSameAt, Says, SaysAt, IsAlike}
+use Rattle.questions.specs.Scopes.{AreExactUnder, AreLeavesUnder, IsOf, ShowsUnder, answered, known_by, scope_of, table_of, whole_of, Whole, all_of}
+use Rattle.questions.specs.asked.Alike.{HoldsWith, IsAlwaysSettled, IsGivenBy, IsOfOther, IsSameOn, SaysIf, IsAlwaysSameAt}
+use Rattle.questions.specs.asked.Differing.{IsUnclearIf, MayDiffer, MayDifferSomewhere, IsOfRule, MayDifferOn}
+use Rattle.questions.specs.boxes.Boxes.{IsAtHook, IsBoth, IsIn}
+use Rattle.questions.specs.declared.asked.likeness.Likeness.{Likeness}
+use Rattle.questions.specs.declared.asked.other.Shown.{Shown}
+use Rattle.questions.specs.declared.foreign.answers.Answer.{Answer}
 use Rattle.questions.specs.declared.foreign.subject.Subject.{Subject}
 use Rattle.questions.specs.declared.walking.scope.Scope.{Scope}
-use Rattle.questions.specs.steps.Compared.{IsSettled, MayDifferOf}
-use Rattle.questions.specs.steps.Takers.{IsMatchedAt}
+use Rattle.questions.specs.declared.walking.task.Leaf.{Leaf}
+use Rattle.questions.specs.steps.Answered.{MeetsNever}
+use Rattle.questions.specs.steps.Compared.{AreWalked, IsSettled, MayDifferOf}
+use Rattle.questions.specs.steps.Takers.{IsScopeAt, needs_of, IsMatchedAt}
+use Rattle.questions.specs.asked.Changes.{AreChanges, AreChangesUnder, AreThese, IsUntouched}
+use Rattle.questions.specs.declared.asked.changes.Changes.{Changes}
+use Rattle.questions.specs.declared.boxes.boxed_table.BoxedTable.{BoxedTable}
+use Rattle.questions.specs.declared.foreign.need.Need.{Need}
+use Rattle.questions.specs.Leaves.{entry_of}
+use Rattle.questions.specs.declared.asked.likeness.Likeness.TheVariants as likeness
+use Rattle.questions.specs.asked.Alike as Alike
+use Rattle.questions.proofs.laws.PacketLaws.{written_at_hooks}
+use Rattle.questions.proofs.laws.PlainLaws.{gives_none, to_plain}
+use Rattle.questions.proofs.laws.ResolvedLaws.{held_before, matched_before, entry_left, rule_back, rule_left_there}
+use Rattle.questions.proofs.laws.AnswerLaws.{some_assignment_gives}
 use Rattle.questions.proofs.laws.ElsewhereLaws.{off_the_walk}
-use Rattle.questions.proofs.laws.ResolvedLaws.{entry_left, rule_back, rule_left_there}
 use Rattle.questions.proofs.laws.SharedLaws.{are_off, matches_none}
+
+-- ---- What is said of each hook is said of all.
+
+pub each_hook : (P : Hook → Type 0) (n : ℕ) → 3 ≤ n → ((k : ℕ) (h : Hook) → k < n → P (get_or all_hooks k h)) → (h : Hook) → P h
+each_hook P n le each Input = each 0 Input (omega (arith, le))
+each_hook P n le each Forward = each 1 Forward (omega (arith, le))
+each_hook P n le each Output = each 2 Output (omega (arith, le))
+
+-- hook after hook
+pub hooks_next : (P : Hook → Type 0) (n : ℕ) → n < 3 → P (get_or all_hooks n Input) → ((k : ℕ) (h : Hook) → k < n → P (get_or all_hooks k h)) → (k : ℕ) (h : Hook) → k < n + 1 → P (get_or all_hooks k h)
+hooks_next P n lt here below k h less =
+    elim (cases_lt k n) [
+      | inl before ↦ below k h before
+      | inr past ↦ (
+          let same : n ≡ k = omega (arith, less, past) in
+          let Q : ℕ → Type 0 = λ j. P (get_or all_hooks j h) in
+          subst Q same (subst P (get_or_default all_hooks n Input h (omega (arith, lt))) here))
+    ]
+
+-- ---- What two tables have in common, whatever holds that their rules need.
+
+-- exact leaves give their verdicts
+pub given_all : (s : Subject) (hook : Hook) (start : Scope) (found : List Leaf) → ((a : Assignment) → AreExactUnder (answered s a) (known_by s a) hook start found) → All (IsGivenBy s hook) found
+given_all s hook start found exact k d lt a p can there own = ap (λ (w : Walked). w.verdict) (exact a p can there k d lt own).1
+
+-- a packet of a leaf gets the verdict that all leaves have in which its packets are
+pub given_in : (new : Subject) (hook : Hook) (leaf : Leaf) (found : List Leaf) → AreWalked (whole_of new) hook (scope_of leaf) found → All (λ other. other.verdict ≡ leaf.verdict) found → IsGivenBy new hook leaf
+given_in new hook leaf found walked alike a p can there own =
+    let (k, other, lt, is, ends) = walked.leaves a p can there own in
+    ap (λ (w : Walked). w.verdict) ends.walked ∙ All-contains (λ (o : Leaf). o.verdict ≡ leaf.verdict) found other alike (k, lt, is)
+
+-- a packet that a line writes, of a leaf there with another verdict, gets two verdicts
+pub other_in : (old new : Subject) (hook : Hook) (leaf : Leaf) (start : Scope) (found : List Leaf) (shown : Shown) → IsBoth leaf.area leaf.area start.area → start.answers ≡ leaf.answers → IsGivenBy old hook leaf
+    → ((a : Assignment) → AreExactUnder (answered new a) (known_by new a) hook start found) → IsOfOther hook leaf.verdict found shown → HoldsWith shown.answers (λ a. IsOtherAt (answered old a) (answered new a) hook shown.words)
+other_in old new hook leaf start found shown copy same given exact (k, other, lt, is, (differs, answers, (p, sample))) =
+    let P : List Answer → Type 0 = λ l. (a : Assignment) → Agrees a l → IsOtherAt (answered old a) (answered new a) hook shown.words in
+    record {
+      consistent = (let C : List Answer → Type 0 = λ l. AreConsistent l in subst C (sym answers) other.consistent);
+      each = subst P (sym answers) (λ a agrees.
+          let can : IsAtHook p = written_at_hooks shown.words p sample.writes in
+          let shows : ShowsUnder (answered new a) (known_by new a) start p other = All-contains (ShowsUnder (answered new a) (known_by new a) start p) found other (exact a p can sample.there) (k, lt, is) in
+          let A : List Answer → Type 0 = λ l. Agrees a l in
+          let (own, walked) = shows (record { inside = sample.inside; agrees = agrees }) in
+          let before : IsOf (known_by old a) p (scope_of leaf) = record { inside = copy.first p.values can.packet.within own.inside; agrees = subst A same own.agrees } in
+          (p, sample.writes, sample.there, λ one. differs (sym (ap (λ (w : Walked). w.verdict) walked) ∙ sym one ∙ given a p can sample.there before)));
+    }
+
+-- each packet of a scope is in some leaf of the first table; where both tables give the leaf's verdict, they give the same one
+pub same_on : (old new : Subject) (hook : Hook) (start : Scope) (found : List Leaf) → ((a : Assignment) → AreLeavesUnder (answered old a) (known_by old a) hook start found) → All (IsGivenBy new hook) found → IsSameOn old new hook start
+same_on old new hook start found cover given a p can there own =
+    let (k, leaf, lt, is, ends) = cover a p can there own in
+    let of : IsOf (known_by new a) p (scope_of leaf) = record { inside = ends.own.inside; agrees = ends.own.agrees } in
+    ap (λ (w : Walked). w.verdict) ends.walked ∙ sym (All-contains (IsGivenBy new hook) found leaf given (k, lt, is) a p can there of)
+
+-- ---- one answer for another
+
+-- what is said with one fact for "the same" is said with any that follows from it
+pub said_as : (P Q : Type 0) (old new : Subject) (hook : Hook) (said : Likeness) → (P → Q) → SaysIf P old new hook said → SaysIf Q old new hook said
+said_as P Q old new hook likeness.Same f h = f h
+said_as P Q old new hook (likeness.Differ words answers) f h = h
+said_as P Q old new hook likeness.Unclear f h = tt
+
+-- so is where alone it may be unclear
+pub unclear_as : (P Q : Type 0) (said : Likeness) → (P → Q) → IsUnclearIf P said → IsUnclearIf Q said
+unclear_as P Q likeness.Same f h = tt
+unclear_as P Q (likeness.Differ words answers) f h = tt
+unclear_as P Q likeness.Unclear f h = f h
+
+-- ---- the packets that a rule matches
+
+-- where the packets of its scope get the same verdict, those that it matches do
+pub settled_on : (own old new : Subject) (hook : Hook) (step : Step) (scope : Scope) → IsRule (table_of own) step → IsScopeAt (table_of own) own.needs.now step hook scope → IsSameOn old new hook scope → IsAlwaysSettled own old new hook step
+settled_on own old new hook step scope is (given, boxed, same, meets) on a =
+    inl (λ p at.
+    let before : IsMatchedAt (table_of own) step hook p = matched_before own.needs.now a (table_of own) step hook p is at in
+    let P : List SpanSet → Type 0 = λ box. IsIn box p in
+    on a p at.can at.there (record { inside = subst P same (boxed.all p before); agrees = meets.all a (gives_none a) (held_before own.needs.now a (table_of own) step hook p is at) }))
+
+-- where no assignment meets what it needs, it matches none
+pub settled_never : (own old new : Subject) (hook : Hook) (step : Step) → IsRule (table_of own) step → MeetsNever (needs_of own.needs.now step) [] → IsAlwaysSettled own old new hook step
+settled_never own old new hook step is never a =
+    inl (λ p at. absurd (true≢false (sym (held_before own.needs.now a (table_of own) step hook p is at) ∙ never a (gives_none a))))
+
+-- ---- Two tables in which no rule needs anything: what is said for every assignment is said of the tables themselves.
+
+-- a table, and what its rules need
+abbrev pub subject_of : Bor BoxedTable → List (List (List Need)) → Subject
+subject_of boxed needs = record { boxed = boxed; needs = record { ref_ptr = boxed.ref_ptr; now = needs } }
+
+-- under which nothing holds
+abbrev pub nothing : Assignment
+nothing condition = false
+
+-- it is the whole of a table in which no rule needs anything
+as_all : (s : Subject) → s.needs.now ≡ [] → (P : Whole → Type 0) → P (whole_of s) → P (all_of (table_of s))
+as_all s none P h = let Q : List (List (List Need)) → Type 0 = λ ns. P (record { table = table_of s; needs = ns }) in subst Q none h
+
+module _ (old new : Subject) (none : old.needs.now ≡ []) (too : new.needs.now ≡ []) where
+  pub both_plain : (P : Table → Table → Type 0) (a : Assignment) → P (answered old a) (answered new a) → P (table_of old) (table_of new)
+  both_plain P a h = to_plain old none (λ t. P t (table_of new)) a (to_plain new too (λ u. P (answered old a) u) a h)
+
+  pub plain_says : (said : Likeness) → Alike.Says old new said → Says (table_of old) (table_of new) said
+  plain_says likeness.Same h = both_plain IsSame nothing (h nothing)
+  plain_says (likeness.Differ words answers) h =
+      let (a, agrees) = some_assignment_gives answers h.consistent in
+      both_plain (λ t u. IsOther t u words) a (h.each a agrees)
+  plain_says likeness.Unclear h = tt
+
+  pub plain_says_at : (hook : Hook) (said : Likeness) → SaysIf (IsAlwaysSameAt old new hook) old new hook said → SaysAt (table_of old) (table_of new) hook said
+  plain_says_at hook likeness.Same h = both_plain (λ t u. IsSameAt t u hook) nothing (h nothing)
+  plain_says_at hook (likeness.Differ words answers) h =
+      let (a, agrees) = some_assignment_gives answers h.consistent in
+      both_plain (λ t u. IsOtherAt t u hook words) a (h.each a agrees)
+  plain_says_at hook likeness.Unclear h = tt
+
+  -- and so of both tables
+  both_whole : (P : Whole → Whole → Type 0) → P (whole_of old) (whole_of new) → P (all_of (table_of old)) (all_of (table_of new))
+  both_whole P h = as_all old none (λ t. P t (all_of (table_of new))) (as_all new too (λ u. P (whole_of old) u) h)
+
+  abbrev Always : ℕ → Hook → Type 0
+  Always budget hook = MayDiffer (whole_of old) (whole_of new) hook budget
+
+  abbrev Plainly : ℕ → Hook → Type 0
+  Plainly budget hook = MayDiffer (all_of (table_of old)) (all_of (table_of new)) hook budget
+
+  plain_may : (budget : ℕ) (hook : Hook) → Always budget hook → Plainly budget hook
+  plain_may budget hook may = both_whole (λ t u. MayDiffer t u hook budget) may
+
+  pub plain_unclear_at : (budget : ℕ) (hook : Hook) (said : Likeness) → IsUnclearIf (Always budget hook) said → IsUnclearIf (Plainly budget hook) said
+  plain_unclear_at budget hook said h = unclear_as (Always budget hook) (Plainly budget hook) said (plain_may budget hook) h
+
+  pub plain_unclear : (budget : ℕ) (said : Likeness) → IsUnclearIf (MayDifferSomewhere (IsAlwaysSameAt old new) (Always budget)) said → IsUnclearIf (MayDifferSomewhere (IsSameAt (table_of old) (table_of new)) (Plainly budget)) said
+  plain_unclear budget said h = unclear_as (MayDifferSomewhere (IsAlwaysSameAt old new) (Always budget)) (MayDifferSomewhere (IsSameAt (table_of old) (table_of new)) (Plainly budget)) said (λ (each, (hook, may)). (by_hook each, (hook, plain_may budget hook may))) h
+    where
+      by_hook : ((hook : Hook) → IsAlwaysSameAt old new hook ⊎ Always budget hook) → (hook : Hook) → IsSameAt (table_of old) (table_of new) hook ⊎ Plainly budget hook
+      by_hook each hook = elim (each hook) [
+        | inl same ↦ inl (both_plain (λ t u. IsSameAt t u hook) nothing (same nothing))
+        | inr may ↦ inr (plain_may budget hook may)
+      ]
+
+  pub changes_plain : (changes : Changes) → ((a : Assignment) → AreChanges (answered old a) (answered new a) changes) → AreChanges (table_of old) (table_of new) changes
+  changes_plain changes are = both_plain (λ t u. AreChanges t u changes) nothing (are nothing)
+
+  pub unpaired_plain : (changes : Changes) → AreChangesUnder (whole_of old) (whole_of new) changes → AreChangesUnder (all_of (table_of old)) (all_of (table_of new)) changes
+  unpaired_plain changes are = both_whole (λ t u. AreChangesUnder t u changes) are
+
+-- ---- Two tables compared by the rules in which they differ.
 
 -- some of the rules matches the packet, or none does
 some_or_none : (t : Table) (p : Packet) (steps : List Step) → ((step : Step) × Contains steps step × (matches p.values (rule_at t step) ≡ true)) ⊎ ((step : Step) → Contains steps step → IsFalse (matches p.values (rule_at t step)))

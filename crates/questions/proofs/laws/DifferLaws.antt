@@ -5,8 +5,8 @@ use Rattle.std.proofs.lemmas.List.Elements.{All-contains}
 use Rattle.fields.specs.declared.numbers.field.Field.TheVariants as field
 use Rattle.fields.specs.declared.packet.hook.Hook.{Hook}
 use Rattle.fields.specs.numbers.Spans.{SpanSet}
-use Rattle.fields.specs.packet.Packet.{PacketView as Packet, IsPacket}
-use Rattle.classify.specs.classifier.Classifier.{IsPoint}
+use Rattle.fields.specs.Packet.{PacketView as Packet, IsPacket}
+use Rattle.classify.specs.Classifier.{IsPoint}
 use Rattle.table.specs.declared.walk.trail.Step.{Step}
 use Rattle.table.specs.walk.Walk.{Walked}
 use Rattle.questions.specs.Foreign.{Agrees, Assignment}
@@ -15,7 +15,7 @@ use Rattle.questions.specs.asked.Alike.{IsGivenBy}
 use Rattle.questions.specs.asked.Always.{MayLive, SaysAt}
 use Rattle.questions.specs.asked.Differing.{AreWrittenAlike, HasPackets, IsNotDead, IsOtherOn, MayDifferOn}
 use Rattle.questions.specs.asked.Unclear.{IsUnclearAt}
-use Rattle.questions.specs.boxes.Area.{Has, HasNumbers, HasOwnInterfaces, IsAtHook, IsBoth, IsIn}
+use Rattle.questions.specs.boxes.Boxes.{Has, HasNumbers, HasOwnInterfaces, IsAtHook, IsBoth, IsIn}
 use Rattle.questions.specs.declared.asked.reach.Given.{Given}
 use Rattle.questions.specs.declared.asked.rule.Life.{Life}
 use Rattle.questions.specs.declared.asked.rule.Life.TheVariants as life

@@ -6,8 +6,8 @@ use Rattle.std.proofs.lemmas.List.Elements.{All-contains}
 use Rattle.std.proofs.lemmas.List.Quantifiers.{Any-push}
 use Rattle.fields.specs.declared.packet.hook.Hook.{Hook}
 use Rattle.fields.specs.numbers.Spans.{SpanSet}
-use Rattle.fields.specs.packet.Packet.{PacketView as Packet, IsPacket}
-use Rattle.classify.specs.classifier.Classifier.{IsPoint}
+use Rattle.fields.specs.Packet.{PacketView as Packet, IsPacket}
+use Rattle.classify.specs.Classifier.{IsPoint}
 use Rattle.table.specs.chains.Table.{Chain, Table}
 use Rattle.table.specs.declared.verdict.Verdict.{Verdict}
 use Rattle.table.specs.declared.walk.trail.Step.{Step}
@@ -17,7 +17,7 @@ use Rattle.questions.specs.Foreign.{Agrees, Assignment, resolved}
 use Rattle.questions.specs.Leaves.{AreExactOn}
 use Rattle.questions.specs.Scopes.{AreExactUnder, AreLeavesUnder, IsOf, IsSurely, Known, entries_by, is_met, scope_of, unasked, walked_by}
 use Rattle.questions.specs.asked.Unknown.{CantBeWalked}
-use Rattle.questions.specs.boxes.Area.{Has, HasOwnInterfaces, IsAtHook, IsBoth, IsIn}
+use Rattle.questions.specs.boxes.Boxes.{Has, HasOwnInterfaces, IsAtHook, IsBoth, IsIn}
 use Rattle.questions.specs.declared.asked.reach.Given.{Given}
 use Rattle.questions.specs.declared.foreign.answers.Answer.{Answer}
 use Rattle.questions.specs.declared.foreign.need.Need.{Need}
@@ -29,7 +29,7 @@ use Rattle.questions.specs.steps.Exact.{AddsExact, AreExact, AreExactWalks, AreE
 use Rattle.questions.specs.steps.Taken.{IsUnfinishedUnder}
 use Rattle.questions.specs.steps.Transports.{HasTransport, IsWithTransport, all_transports}
 use Rattle.questions.proofs.laws.BoxesLaws.{Pair, pair_more}
-use Rattle.questions.proofs.laws.GroupLaws.{any_left}
+use Rattle.questions.proofs.laws.ReachLaws.{any_left}
 use Rattle.questions.proofs.laws.PlainLaws.{exact_plain, gives_none}
 use Rattle.questions.proofs.laws.TrailLaws.{items_next}
 use Rattle.questions.proofs.laws.TransportLaws.{at_hook_of, fits_of, some_transport}

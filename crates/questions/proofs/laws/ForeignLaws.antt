@@ -2,15 +2,14 @@
 use Rattle.std.proofs.Common.{◌≡◌, inl, inr, ℕ, zero, suc, ◌<◌, Bool, true, false, ◌||◌, ◌&&◌, List, [], length, get_or, refl, sym, ◌∙◌, ap, arith, subst, All, Contains}
 use Rattle.std.specs.Str.{bytes_eq}
 use Rattle.fields.specs.declared.packet.hook.Hook.TheVariants.{Input, Output}
-use Rattle.fields.specs.packet.Hook.{name as hook_name}
+use Rattle.fields.specs.Hook.{name as hook_name}
 use Rattle.rules.specs.rule.Rules.{Rule}
 use Rattle.table.specs.chains.Sound.{AreListed, IsSound, IsSoundChain, MayStand, Names, Path}
 use Rattle.table.specs.chains.Table.{Chain, Table, chain_named_by, rules_of}
 use Rattle.table.specs.edits.Edits.{asks_absent_interface}
 use Rattle.questions.specs.Foreign.{Assignment, never, resolved, resolved_rules}
 use Rattle.questions.specs.declared.foreign.need.Need.{Need}
-use Rattle.questions.proofs.laws.NeverLaws.{never_names_nothing, never_reads_back}
-use Rattle.questions.proofs.laws.ResolvedLaws.{chain_named, chain_resolved, has_same, is_or_never, length_same, names_same, rule_resolved, rule_there, rules_by_name, rules_length, users_same}
+use Rattle.questions.proofs.laws.ResolvedLaws.{never_names_nothing, never_reads_back, chain_named, chain_resolved, has_same, is_or_never, length_same, names_same, rule_resolved, rule_there, rules_by_name, rules_length, users_same}
 
 neither : (b c : Bool) → (b && false || c && false) ≡ false
 neither true true = refl

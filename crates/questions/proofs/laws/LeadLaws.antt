@@ -1,22 +1,21 @@
--- Where walks come to: to the chains that jumps and gotos lead to.
+-- Where walks come to: to the chains that jumps and gotos lead to, and never to those of hooks.
 use Rattle.std.proofs.Common.{◌≡◌, inl, inr, ℕ, zero, suc, ◌+◌, ◌-◌, ◌<◌, ◌≤◌, Bool, true, false, List, [], ◌∷◌, ◌++◌, length, get_or, refl, sym, ◌∙◌, ap, arith, subst, Option, Some, None, All, Contains}
-use Rattle.std.specs.Prelude.{◌↔◌, option_and_then, slice_get, IsTrue}
+use Rattle.std.specs.Prelude.{◌↔◌, option_and_then, slice_get, IsTrue, replicate, take}
 use Rattle.std.specs.List.{position}
 use Rattle.std.proofs.Math.ListN.{set}
-use Rattle.std.proofs.lemmas.Bool.{cases_eq, true≢false}
-use Rattle.std.proofs.lemmas.List.{get_or_default, get_or-set_same, get_or-set_other, length-set}
+use Rattle.std.proofs.lemmas.Bool.{cases_eq, true≢false, cases_lt}
+use Rattle.std.proofs.lemmas.List.{get_or_default, get_or-set_same, get_or-set_other, length-set, get_or-replicate, get_or_past, length-replicate}
 use Rattle.std.proofs.lemmas.List.Elements.{All-cons, All-contains, All-head, All-nil, All-push, All-tail, Contains-get_or}
 use Rattle.std.proofs.lemmas.Option.{get_or_from_slice_get, slice_get-get_or, slice_get_within}
 use Rattle.std.proofs.lemmas.Slice.Eq.{bytes_eq-Decides}
 use Rattle.fields.specs.declared.packet.hook.Hook.{Hook}
-use Rattle.fields.specs.packet.Hook.{name as hook_name}
-use Rattle.fields.specs.packet.Packet.{PacketView as Packet}
+use Rattle.fields.specs.Hook.{name as hook_name}
+use Rattle.fields.specs.Packet.{PacketView as Packet}
 use Rattle.rules.specs.declared.rule.target.Target.{Target}
-use Rattle.rules.specs.declared.rule.target.Target.TheVariants as target
 use Rattle.rules.specs.rule.Actions.{target_of}
 use Rattle.rules.specs.rule.Rules.{Rule, empty_rule}
-use Rattle.table.specs.chains.Sound.{IsSound, Leads, Names, Path}
-use Rattle.table.specs.chains.Table.{Chain, Table, chain_at, chain_in, chain_named_by, empty_chain, is_named, rules_of}
+use Rattle.table.specs.chains.Sound.{IsSound, Leads, Names, Path, IsSoundChain, MayStand}
+use Rattle.table.specs.chains.Table.{Chain, Table, chain_at, chain_in, chain_named_by, empty_chain, is_named, rules_of, built_in_names, is_built_in, names_of}
 use Rattle.table.specs.declared.verdict.Verdict.{Verdict}
 use Rattle.table.specs.declared.walk.trail.Step.{Step}
 use Rattle.table.specs.steps.Kept.{hook_index}
@@ -25,16 +24,18 @@ use Rattle.table.specs.walk.Walk.{Entry, Next, Ends, GoesOn, Rest, after_match, 
 use Rattle.table.proofs.laws.chains.KeepLaws.{rules_by_name}
 use Rattle.table.proofs.laws.chains.PlaceLaws.{IsPlaced, placed_at, any_none, has_at}
 use Rattle.table.proofs.laws.walk.CaseLaws.{walks_by_cases}
+use Rattle.rules.specs.declared.rule.target.Target.TheVariants as target
 use Rattle.questions.specs.Ends.{IsRule, rule_at}
 use Rattle.questions.specs.Leaves.{name_at}
 use Rattle.questions.specs.boxes.Calls.{AreCalls, IsCall, place_named}
 use Rattle.questions.specs.declared.seeking.calls.Call.{Call}
 use Rattle.questions.specs.declared.walking.task.Pending.{Pending}
 use Rattle.questions.specs.steps.Leading.{AllLead, AreClosed, AreLeading, AreSpread, Counts, IsClosedBy, IsMarked, IsMarkedName, LeadsOn, NamesMarked, PathBy, Spreads, unmarked}
-use Rattle.questions.proofs.laws.CallLaws.{listed, own_position}
-use Rattle.questions.proofs.laws.EndLaws.{none_some, rules_there}
-use Rattle.questions.proofs.laws.TrailLaws.{items_next, one_place}
+use Rattle.questions.proofs.laws.WayLaws.{listed, own_position}
+use Rattle.questions.proofs.laws.TrailLaws.{none_some, rules_there, items_next, one_place}
 use Rattle.questions.proofs.laws.WaitLaws.{named_first}
+
+-- ---- Where walks come to: to the chains that jumps and gotos lead to.
 
 -- ---- walks stay in a set of chains that has the hook's chain and, with a chain, each that its rules name
 
@@ -302,3 +303,45 @@ hook_led t name marks hook s leading h =
     let named = named_first t.chains hook s.listed.built_in in
     let P : List ℕ → Type 0 = λ n. Leads t.chains n name in
     leading.all (hook_index hook) named.1 (subst P (sym named.0) h)
+
+-- ---- The chains of hooks, to which no jumps and gotos lead.
+
+-- no rule names a built-in chain
+names_user : (t : Table) (place : ℕ) (rule : Rule) (name : List ℕ) → IsSound t → place < length t.chains → Contains (chain_at t place).rules rule → chain_named_by rule ≡ Some name → is_built_in name ≡ true → ⊥
+names_user t place rule name s lt there names built =
+    let own : Chain = chain_at t place in
+    let sound : IsSoundChain t own = s.chains place (empty_chain []) lt in
+    let stands : MayStand t own.name rule = All-contains (MayStand t own.name) own.rules rule sound.rules there in
+    true≢false (sym built ∙ (stands.target name names).user)
+
+-- the first three chains are built in
+first_built_in : (cs : List Chain) (place : ℕ) → take 3 (names_of cs) ≡ built_in_names → place < 3 → is_built_in (name_at cs place) ≡ true
+first_built_in [] place e lt = absurd (omega (arith, ap (λ (ns : List (List ℕ)). length ns) e))
+first_built_in (a ∷ []) place e lt = absurd (omega (arith, ap (λ (ns : List (List ℕ)). length ns) e))
+first_built_in (a ∷ b ∷ []) place e lt = absurd (omega (arith, ap (λ (ns : List (List ℕ)). length ns) e))
+first_built_in (a ∷ b ∷ c ∷ cs) zero e lt = ap (λ (ns : List (List ℕ)). is_built_in (get_or ns 0 [])) e
+first_built_in (a ∷ b ∷ c ∷ cs) (suc zero) e lt = ap (λ (ns : List (List ℕ)). is_built_in (get_or ns 1 [])) e
+first_built_in (a ∷ b ∷ c ∷ cs) (suc (suc zero)) e lt = ap (λ (ns : List (List ℕ)). is_built_in (get_or ns 2 [])) e
+first_built_in (a ∷ b ∷ c ∷ cs) (suc (suc (suc k))) e lt = absurd (omega (arith, lt))
+
+-- ---- marks
+
+pub none_marked : (marks : List Bool) (n : ℕ) → marks ≡ replicate n false → (k : ℕ) → get_or marks k false ≡ false
+none_marked marks n is k =
+    let P : List Bool → Type 0 = λ xs. get_or xs k false ≡ false in
+    subst P (sym is) (elim (cases_lt k n) [
+      | inl lt ↦ get_or-replicate n k false false lt
+      | inr past ↦ get_or_past (replicate n false) k false (omega (arith, past, length-replicate n false))
+    ])
+
+-- the only chain that leads to one is itself
+pub first_spread : (t : Table) (own : Option Rule) (marks : List Bool) (place : ℕ) → IsSound t → place < 3 → place < length t.chains → length marks ≡ length t.chains → ((k : ℕ) → get_or marks k false ≡ false) → AreSpread t own place (set marks place true)
+first_spread t own marks place s first lt long none = record {
+  long = length-set marks place true ∙ long;
+  there = get_or-set_same marks place true false (omega (arith, lt, long));
+  each = first_leads t own marks place none;
+  closed = λ k within (rule, there, (name, names, (j, less, marked, same)), counts). elim (cases_eq j place) [
+    | inr ne ↦ absurd (true≢false (sym marked ∙ get_or-set_other marks place j true false ne ∙ none j))
+    | inl e ↦ absurd (names_user t k rule name s within there names (ap is_built_in (sym same ∙ ap (name_at t.chains) e) ∙ first_built_in t.chains place s.listed.built_in first))
+  ];
+}

@@ -8,8 +8,8 @@ use Rattle.std.proofs.lemmas.List.{drop_more, get_or-replicate, get_or-set_other
 use Rattle.std.proofs.lemmas.Slice.Eq.{bytes_eq-Decides}
 use Rattle.std.proofs.lemmas.Option.{get_or_from_slice_get, slice_get_within}
 use Rattle.fields.specs.declared.packet.hook.Hook.{Hook}
-use Rattle.fields.specs.packet.Hook.{name as hook_name}
-use Rattle.fields.specs.packet.Packet.{PacketView as Packet}
+use Rattle.fields.specs.Hook.{name as hook_name}
+use Rattle.fields.specs.Packet.{PacketView as Packet}
 use Rattle.rules.specs.declared.rule.target.Target.{Target}
 use Rattle.rules.specs.declared.rule.target.Target.TheVariants as target
 use Rattle.rules.specs.rule.Actions.{target_of}
@@ -30,8 +30,7 @@ use Rattle.questions.specs.Foreign.{Assignment, never, resolved, resolved_rule, 
 use Rattle.questions.specs.Leaves.{name_at}
 use Rattle.questions.specs.declared.foreign.need.Need.{Need}
 use Rattle.questions.specs.steps.Lengths.{AreBelow, AreBounds, Raises, added, added_at, all_added, number_of, room_left}
-use Rattle.questions.proofs.laws.NeverLaws.{never_matches}
-use Rattle.questions.proofs.laws.ResolvedLaws.{is_or_never, rules_by_name}
+use Rattle.questions.proofs.laws.ResolvedLaws.{never_matches, is_or_never, rules_by_name}
 use Rattle.questions.proofs.laws.TrailLaws.{one_place}
 use Rattle.questions.proofs.laws.WaitLaws.{named_first, no_rules}
 

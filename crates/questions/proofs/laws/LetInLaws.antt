@@ -3,8 +3,8 @@ use Rattle.std.proofs.Common.{◌≡◌, ◌⊎◌, inl, inr, ℕ, ◌+◌, ◌<
 use Rattle.std.specs.Prelude.{AllPairs}
 use Rattle.std.proofs.lemmas.Bool.{and_parts, true≢false}
 use Rattle.fields.specs.declared.packet.hook.Hook.{Hook}
-use Rattle.fields.specs.packet.Hook.{name as hook_name}
-use Rattle.fields.specs.packet.Packet.{PacketView as Packet}
+use Rattle.fields.specs.Hook.{name as hook_name}
+use Rattle.fields.specs.Packet.{PacketView as Packet}
 use Rattle.rules.specs.rule.Allows.{allows_each}
 use Rattle.rules.specs.rule.Crossing.{cross}
 use Rattle.table.specs.chains.Sound.{IsSound}
@@ -25,7 +25,7 @@ use Rattle.questions.specs.declared.seeking.calls.Call.{Call}
 use Rattle.questions.specs.steps.Deciding.{AddsAt, AddsBy, AllTake, AreTakersOf, IsAsked, IsTakenAt}
 use Rattle.questions.specs.steps.Straying.{Hits, IsOpenWay, place_at}
 use Rattle.questions.specs.steps.Takers.{Grows, IsLetBy}
-use Rattle.questions.proofs.laws.CallLaws.{listed}
+use Rattle.questions.proofs.laws.WayLaws.{listed}
 use Rattle.questions.proofs.laws.ResolvedLaws.{chain_named}
 use Rattle.questions.proofs.laws.SeekLaws.{matched_there, names_entered, rule_at_place}
 use Rattle.questions.proofs.laws.StrayLaws.{comes_by_way}

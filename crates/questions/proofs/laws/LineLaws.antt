@@ -1,36 +1,61 @@
--- The line of a packet writes it.
-use Rattle.std.proofs.Common.{◌≡◌, ◌≢◌, ◌==◌, ℕ, zero, suc, ◌<◌, ◌≤◌, Bool, true, false, cond, not, ◌&&◌, ◌||◌, eqb, List, [], ◌∷◌, ◌++◌, map, get_or, Option, None, Some, Result, Ok, Err, is_some, is_none, refl, ap, sym, subst, ◌∙◌, inl, inr, arith, append-nil, eq-eqb}
-use Rattle.std.specs.Prelude.{flat_map, unwrap_or}
+-- The line of a packet writes it, word by word.
+use Rattle.std.proofs.Common.{◌≡◌, ℕ, ◌+◌, ◌<◌, Bool, true, false, cond, List, [], ◌∷◌, ◌++◌, length, take, get_or, flat_map, ap, ◌∙◌, append-nil, ◌≢◌, ◌==◌, zero, suc, ◌≤◌, not, ◌&&◌, ◌||◌, eqb, map, Option, None, Some, Result, Ok, Err, is_some, is_none, refl, sym, subst, inl, inr, arith, eq-eqb}
+use Rattle.std.specs.Prelude.{filter, unwrap_or}
+use Rattle.std.proofs.lemmas.List.{take_more, ext_get_or, map-append}
+use Rattle.std.proofs.lemmas.List.Concat.{flat_map-append}
+use Rattle.std.proofs.lemmas.List.Elements.{filter-append}
 use Rattle.std.specs.List.{list_any}
 use Rattle.std.specs.Option.{option_or}
 use Rattle.std.specs.Str.{bytes_eq}
 use Rattle.std.proofs.lemmas.Bool.{and_parts, eqb-true, false≢true, true≢false}
-use Rattle.std.proofs.lemmas.List.{ext_get_or, map-append}
-use Rattle.std.proofs.lemmas.List.Elements.{filter-append}
 use Rattle.std.proofs.lemmas.Slice.Eq.{bytes_eq-Decides}
-use Rattle.fields.specs.Sequence.{◌>>=◌}
 use Rattle.fields.specs.declared.numbers.field.Field.{Field}
-use Rattle.fields.specs.declared.numbers.field.Field.TheVariants as field
+use Rattle.fields.specs.Packet.{PacketView as Packet, carries_key, checked, fault_of_part, field_of, lacks, leftmost_fault, number_of_text, packet_at, packet_of, packet_shape, part_of, point, shape_of, strays, text_in, text_of, value_on, word_fault, carries, key_of}
+use Rattle.fields.specs.Sequence.{◌>>=◌}
 use Rattle.fields.specs.declared.packet.PacketFault.{PacketFault}
 use Rattle.fields.specs.declared.packet.PacketFault.TheVariants.{BadValue, KeyMissing, NotCarried}
 use Rattle.fields.specs.declared.packet.hook.Hook.{Hook}
-use Rattle.fields.specs.declared.packet.hook.Hook.TheVariants as hook
 use Rattle.fields.specs.numbers.Field.{all_fields, index, name, top}
-use Rattle.fields.specs.packet.Hook.{hook_of, name as hook_name}
-use Rattle.fields.specs.packet.Keys.{carries, key_of}
-use Rattle.fields.specs.packet.Packet.{PacketView as Packet, carries_key, checked, fault_of_part, field_of, lacks, leftmost_fault, number_of_text, packet_at, packet_of, packet_shape, part_of, point, shape_of, strays, text_in, text_of, value_on, word_fault}
+use Rattle.fields.specs.Hook.{hook_of, name as hook_name}
 use Rattle.fields.specs.text.Cut.{cut_at}
 use Rattle.fields.specs.text.Printed.{ArePrintable, IsBareWord, IsPrintable, Shown, bare, spaced_all}
 use Rattle.fields.specs.text.Words.{words_of}
 use Rattle.fields.specs.values.Interface.{interface_value}
-use Rattle.fields.proofs.laws.packet.GivenLaws.{same_field}
+use Rattle.fields.proofs.laws.PacketLaws.{same_field}
 use Rattle.fields.proofs.laws.text.CutLaws.{same_some}
 use Rattle.fields.proofs.laws.text.PrintedLaws.{lines_read_back}
 use Rattle.fields.proofs.laws.values.BareLaws.{joined}
 use Rattle.notation.specs.ValueText.{HasName, HasText, value_text}
 use Rattle.notation.proofs.ValueTextLaws.{reads_back, text_is_bare}
-use Rattle.questions.specs.steps.Lines.{is_written, packet_line, word_of, written_among}
-use Rattle.questions.specs.steps.Sampled.{CanBeWritten, IsInterfaceNumber, Writes}
+use Rattle.fields.specs.declared.numbers.field.Field.TheVariants as field
+use Rattle.fields.specs.declared.packet.hook.Hook.TheVariants as hook
+use Rattle.questions.specs.steps.Sampled.{is_written, spaced_word, spaced_words, packet_line, word_of, written_among, CanBeWritten, IsInterfaceNumber, Writes}
+
+-- ---- One word more of what a line writes.
+
+-- one item more of those that pass a test
+module _ {A : Type 0} (test : A → Bool) (xs : List A) (i : ℕ) (d : A) (within : i < length xs) where
+  filtered-more : filter test (take (i + 1) xs) ≡ filter test (take i xs) ++ cond (test (get_or xs i d)) (get_or xs i d ∷ []) []
+  filtered-more = ap (filter test) (take_more xs i d within) ∙ filter-append test (take i xs) (get_or xs i d ∷ [])
+
+  pub filtered-yes : test (get_or xs i d) ≡ true → filter test (take (i + 1) xs) ≡ filter test (take i xs) ++ get_or xs i d ∷ []
+  filtered-yes passes = filtered-more ∙ ap (λ b. filter test (take i xs) ++ cond b (get_or xs i d ∷ []) []) passes
+
+  pub filtered-no : test (get_or xs i d) ≡ false → filter test (take (i + 1) xs) ≡ filter test (take i xs)
+  filtered-no fails = filtered-more ∙ ap (λ b. filter test (take i xs) ++ cond b (get_or xs i d ∷ []) []) fails ∙ append-nil (filter test (take i xs))
+
+-- one word more, or none
+module _ (p : Packet) (fields : List Field) (i : ℕ) (d : Field) (within : i < length fields) where
+  pub spaced-yes : is_written p (get_or fields i d) ≡ true → spaced_words p (take (i + 1) fields) ≡ spaced_words p (take i fields) ++ spaced_word p (get_or fields i d)
+  spaced-yes written =
+      ap (flat_map (spaced_word p)) (filtered-yes (is_written p) fields i d within written)
+      ∙ flat_map-append (spaced_word p) (filter (is_written p) (take i fields)) (get_or fields i d ∷ [])
+      ∙ ap (λ l. spaced_words p (take i fields) ++ l) (append-nil (spaced_word p (get_or fields i d)))
+
+  pub spaced-no : is_written p (get_or fields i d) ≡ false → spaced_words p (take (i + 1) fields) ≡ spaced_words p (take i fields)
+  spaced-no left_out = ap (flat_map (spaced_word p)) (filtered-no (is_written p) fields i d within left_out)
+
+-- ---- The line of a packet writes it.
 
 -- what the word of a field is, with any text
 cut_word : (f : Field) (text : List ℕ) → cut_at 61 (name f ++ 61 ∷ text) ≡ Some (name f, text)

@@ -1,28 +1,164 @@
--- Parts of a box: that they have numbers, and share none.
-use Rattle.std.proofs.Common.{◌≡◌, inl, inr, ℕ, suc, ◌+◌, ◌-◌, ◌<◌, ◌≤◌, Bool, true, false, not, List, [], ◌∷◌, ◌++◌, length, get_or, map, reverse, refl, sym, ◌∙◌, ap, arith, subst, All, AllPairs}
-use Rattle.std.proofs.lemmas.Bool.{and_from, and_parts, cases_Bool, cases_eq, cases_lt, true≢false}
+-- Parts of a box: what two boxes have in common, and that the parts have numbers and share none.
+use Rattle.std.proofs.Common.{◌≡◌, inl, inr, ℕ, zero, suc, ◌+◌, ◌<◌, ◌≤◌, true, false, ◌||◌, List, [], ◌∷◌, length, get_or, refl, ◌∙◌, ap, arith, Bool, sym, subst, below_more, max, min, map, ◌++◌, ◌-◌, not, reverse, All, AllPairs}
+use Rattle.std.proofs.lemmas.Bool.{and_from, and_parts, cases_Bool, cases_lt, le-leb, leb-true, or_right, cases_eq, true≢false}
+use Rattle.std.proofs.Math.Dec.{leb}
 use Rattle.std.proofs.lemmas.List.{get_or_default, length-append, reverse-append}
-use Rattle.std.proofs.lemmas.List.Elements.{All-append, All-cons, All-map, All-nil, All-push, Contains-append_cases, Contains-get_or}
+use Rattle.std.proofs.lemmas.List.Elements.{Contains-push, All-append, All-cons, All-map, All-nil, All-push, Contains-append_cases, Contains-get_or}
 use Rattle.std.proofs.lemmas.List.Kept.{AllPairs-cons}
 use Rattle.std.proofs.lemmas.List.Quantifiers.{all_pairs_push}
+use Rattle.fields.specs.declared.numbers.spans.Interval.{Interval}
+use Rattle.fields.specs.numbers.Spans.{AreSpansFrom, has, in_span, SpanSet}
+use Rattle.fields.proofs.laws.numbers.SpanLaws.{none_below, has_first}
 use Rattle.fields.specs.declared.numbers.field.TheConstants.{FIELDS}
+use Rattle.fields.specs.numbers.Field.{index, top, all_fields, number_on}
+use Rattle.rules.specs.Boxed.{IsBox, IsBoxOf}
+use Rattle.rules.proofs.laws.BoxLaws.{index-lt, box_long, top_on}
+use Rattle.classify.proofs.laws.classifier.ClassifierLaws.{field_at}
 use Rattle.fields.specs.declared.numbers.field.Field.{Field}
-use Rattle.fields.specs.declared.packet.hook.Hook.TheVariants as hook
-use Rattle.fields.specs.numbers.Field.{all_fields, index, number_on, top}
-use Rattle.fields.specs.numbers.Spans.{SpanSet, has}
-use Rattle.rules.specs.boxing.Boxed.{IsBox, IsBoxOf}
-use Rattle.rules.specs.rule.Crossing.{IsListedByRule}
 use Rattle.rules.specs.rule.Rules.{Rule}
-use Rattle.rules.proofs.laws.boxing.BoxLaws.{box_long, index-lt, top_on}
-use Rattle.classify.specs.classifier.Classifier.{IsPoint, box_allows}
-use Rattle.questions.specs.boxes.Area.{Has, HasNumbers, IsBoth}
-use Rattle.questions.specs.boxes.Cut.{IsAllowedIn, IsInSome}
-use Rattle.questions.specs.boxes.Meeting.{AreMet}
-use Rattle.questions.specs.boxes.Parts.{AreDisjoint, IsPortPart, IsSideOf, ShareNone}
-use Rattle.questions.specs.steps.Sides.{AddsLeaving, IsPart, IsSide, LeavesAt, has_at, no_set, takes}
-use Rattle.questions.proofs.laws.AreaLaws.{at_place, box_of_rule, from_fields, on_field, part_at, takes_after, takes_at, takes_below}
+use Rattle.classify.specs.Classifier.{IsPoint, box_allows}
+use Rattle.rules.specs.rule.Allows.{matches}
+use Rattle.rules.specs.rule.Crossing.{IsListedByRule}
+use Rattle.fields.specs.declared.packet.hook.Hook.TheVariants as hook
+use Rattle.questions.specs.boxes.Boxes.{HasNumbers, Has, IsBoth}
+use Rattle.questions.specs.boxes.Cut.{AreMet, HaveCommon, IsWhole, IsCut, IsInSome, IsAllowedIn, AreDisjoint, IsPortPart, IsSideOf, ShareNone}
+use Rattle.questions.specs.steps.Sides.{no_set, AddsLeaving, IsPart, IsSide, LeavesAt, has_at, takes}
+use Rattle.questions.specs.steps.Leading.{ShareNumbers}
+use Rattle.questions.proofs.laws.AreaLaws.{box_of_rule, from_fields, at_place, on_field, part_at, takes_after, takes_at, takes_below}
 use Rattle.questions.proofs.laws.PacketLaws.{at_index}
 use Rattle.questions.proofs.laws.ReachLaws.{packet_with, with_inside, with_number, with_packet}
+
+-- ---- Intervals that lie in a set, or don't.
+
+out_of : (x : ℕ) (s : Interval) → (s.first ≤ x → x ≤ s.last → ⊥) → in_span x s ≡ false
+out_of x s out =
+    elim (cases_Bool (in_span x s)) [
+      | inl t ↦ (let both = and_parts (leb s.first x) (leb x s.last) t in absurd (out (leb-true s.first x both.0) (leb-true x s.last both.1)))
+      | inr f ↦ f
+    ]
+
+not_has : (x : ℕ) (s : Interval) (spans : List Interval) → (s.first ≤ x → x ≤ s.last → ⊥) → has spans x ≡ false → has (s ∷ spans) x ≡ false
+not_has x s spans out none = ap (λ b. b || has spans x) (out_of x s out) ∙ none
+
+-- numbers from one to another of which no interval of the set has all: some isn't in the set, since there is a gap between each two intervals
+pub some_missing : (top low : ℕ) (spans : List Interval) (first last : ℕ) → AreSpansFrom top low spans → first ≤ last → ((k : ℕ) (d : Interval) → k < length spans → (get_or spans k d).first ≤ first → last ≤ (get_or spans k d).last → ⊥)
+    → (x : ℕ) × (first ≤ x) × (x ≤ last) × (has spans x ≡ false)
+some_missing top low [] first last rise le none = (first, omega arith, le, refl)
+some_missing top low (s ∷ spans) first last (lower, upward, high, rise) le none =
+    elim (cases_lt first s.first) [
+      | inl before ↦ (first, omega arith, le, not_has first s spans (λ from to. omega (arith, before, from)) (none_below top (s.last + 2) first spans rise (omega (arith, before, upward))))
+      | inr from ↦ elim (cases_lt s.last last) [
+        | inr within ↦ absurd (none 0 s (omega arith) from within)
+        | inl beyond ↦ elim (cases_lt (s.last + 1) first) [
+          | inl later ↦ (
+              let (x, low_x, high_x, off) = some_missing top (s.last + 2) spans first last rise le (λ k d lt. none (suc k) d (omega (arith, lt))) in
+              (x, low_x, high_x, not_has x s spans (λ from_x to. omega (arith, later, low_x, to)) off))
+          | inr near ↦ (s.last + 1, near, omega (arith, beyond), not_has (s.last + 1) s spans (λ from_x to. omega (arith, to)) (none_below top (s.last + 2) (s.last + 1) spans rise (omega arith)))
+        ]
+      ]
+    ]
+
+-- an interval of a set goes from a number to one that isn't less, and not beyond the set's top
+pub interval_of : (top low : ℕ) (spans : List Interval) (k : ℕ) (d : Interval) → AreSpansFrom top low spans → k < length spans → ((get_or spans k d).first ≤ (get_or spans k d).last) × ((get_or spans k d).last ≤ top)
+interval_of top low [] k d rise lt = absurd (omega (arith, lt))
+interval_of top low (s ∷ spans) zero d (lower, upward, high, rise) lt = (upward, high)
+interval_of top low (s ∷ spans) (suc k) d (lower, upward, high, rise) lt = interval_of top (s.last + 2) spans k d rise (omega (arith, lt))
+
+-- the set has its numbers
+pub has_interval : (spans : List Interval) (k : ℕ) (d : Interval) (x : ℕ) → k < length spans → (get_or spans k d).first ≤ x → x ≤ (get_or spans k d).last → has spans x ≡ true
+has_interval [] k d x lt from to = absurd (omega (arith, lt))
+has_interval (s ∷ spans) zero d x lt from to = ap (λ b. b || has spans x) (and_from (leb s.first x) (leb x s.last) (le-leb s.first x from) (le-leb x s.last to))
+has_interval (s ∷ spans) (suc k) d x lt from to = elim (cases_Bool (in_span x s)) [
+  | inl t ↦ ap (λ b. b || has spans x) t
+  | inr f ↦ ap (λ b. b || has spans x) f ∙ has_interval spans k d x (omega (arith, lt)) from to
+]
+
+-- ---- What two boxes have in common, by their sets.
+
+-- the numbers of one list of intervals are in another
+abbrev pub AreOf : List Interval → List Interval → Type 0
+AreOf some all = (x : ℕ) → has some x ≡ true → has all x ≡ true
+
+-- those behind the first interval are
+pub of_behind : (s : Interval) (ss some all : List Interval) → some ≡ s ∷ ss → AreOf some all → AreOf ss all
+of_behind s ss some all e h x there =
+    let P : List Interval → Type 0 = λ l. has l x ≡ true in
+    h x (subst P (sym e) (or_right (in_span x s) (has ss x) there))
+
+-- a set with one interval has the numbers of that
+pub has_only : (set : SpanSet) (s : Interval) (x : ℕ) → set.intervals ≡ s ∷ [] → has set.intervals x ≡ in_span x s
+has_only set s x e = ap (λ (ss : List Interval). has ss x) e ∙ or_nothing (in_span x s)
+  where
+    or_nothing : (b : Bool) → (b || false) ≡ b
+    or_nothing true = refl
+    or_nothing false = refl
+
+-- two first intervals that meet have a number in common
+pub common_of : (own other : SpanSet) (left right ss ts : List Interval) (s t : Interval) (first last : ℕ) → AreSpansFrom own.top 0 left → left ≡ s ∷ ss → right ≡ t ∷ ts → AreOf left own.intervals → AreOf right other.intervals
+    → first ≡ max s.first t.first → last ≡ min s.last t.last → first ≤ last → HaveCommon own other
+common_of own other left right ss ts s t first last rise l r in_own in_other f e le =
+    let Q : List Interval → Type 0 = λ is. AreSpansFrom own.top 0 is in
+    let rises = subst Q l rise in
+    let P : List Interval → Type 0 = λ is. has is first ≡ true in
+    (first, omega (arith, rises.2, f, e, le), in_own first (subst P (sym l) (has_first s ss first (omega (arith, f)) (omega (arith, f, e, le)))), in_other first (subst P (sym r) (has_first t ts first (omega (arith, f)) (omega (arith, f, e, le)))))
+
+-- of the sets at each of the first so many places a number is in both
+abbrev pub MetBelow : List SpanSet → List SpanSet → ℕ → Type 0
+MetBelow own other n = (k : ℕ) → k < n → HaveCommon (get_or own k no_set) (get_or other k no_set)
+
+-- and at one more
+pub met_next : (own other : List SpanSet) (k : ℕ) (a b : SpanSet) → IsBox own → IsBox other → k < FIELDS → a ≡ get_or own k a → b ≡ get_or other k b → HaveCommon a b → MetBelow own other k → MetBelow own other (k + 1)
+met_next own other k a b is too lt ia ib here below j less =
+    elim (cases_lt j k) [
+      | inl before ↦ below j before
+      | inr past ↦ (
+          let same : k ≡ j = omega (arith, less, past) in
+          let P : SpanSet → SpanSet → Type 0 = λ x y. HaveCommon x y in
+          let Q : ℕ → Type 0 = λ i. HaveCommon (get_or own i no_set) (get_or other i no_set) in
+          let one : a ≡ get_or own k no_set = ia ∙ get_or_default own k a no_set (omega (arith, lt, box_long own is)) in
+          let two : b ≡ get_or other k no_set = ib ∙ get_or_default other k b no_set (omega (arith, lt, box_long other too)) in
+          subst Q same (subst (P (get_or own k no_set)) two (subst (λ (x : SpanSet). P x b) one here)))
+    ]
+
+-- and at one more where the second box has all numbers
+pub met_whole : (own other : List SpanSet) (k : ℕ) → IsBox own → IsBox other → k < FIELDS → HasNumbers own → IsWhole (get_or other k no_set) → MetBelow own other k → MetBelow own other (k + 1)
+met_whole own other k is too lt some whole below j less =
+    let (f, at) = field_at k lt in
+    let (x, le, on) = some f in
+    let P : ℕ → Type 0 = λ i. has (get_or own i no_set).intervals x ≡ true in
+    let one : (get_or own k no_set).top ≡ top f = top_on own is f k no_set (sym at) in
+    let two : (get_or other k no_set).top ≡ top f = top_on other too f k no_set (sym at) in
+    below_more (λ i. HaveCommon (get_or own i no_set) (get_or other i no_set)) k below (x, omega (arith, le, one), subst P at on, whole x (omega (arith, le, two))) j less
+
+-- so it is on each field
+pub met_on_all : (own other : List SpanSet) (n : ℕ) → IsBox own → FIELDS ≤ n → MetBelow own other n → AreMet own other
+met_on_all own other n is le below f =
+    let h = below (index f) (omega (arith, index-lt f, le)) in
+    (h.0, omega (arith, h.1, top_on own is f (index f) no_set refl), h.2, h.3)
+
+-- ---- Rules that allow some numbers both, by their boxes.
+
+module _ (own other : Rule) (a b : List SpanSet) (is : IsBoxOf own a) (too : IsBoxOf other b) where
+  pub share_of : AreMet a b → ShareNumbers own other
+  share_of met =
+      let pick : Field → ℕ = λ f. (met f).0 in
+      let numbers : List ℕ = map pick all_fields in
+      let point : IsPoint numbers = λ f. (let P : ℕ → Type 0 = λ n. n ≤ top f in subst P (sym (at_index pick f)) (met f).1) in
+      let first : Has a numbers = from_fields a numbers (λ f. (let P : ℕ → Type 0 = λ n. box_allows a f n ≡ true in subst P (sym (at_index pick f)) (met f).2)) in
+      let second : Has b numbers = from_fields b numbers (λ f. (let P : ℕ → Type 0 = λ n. box_allows b f n ≡ true in subst P (sym (at_index pick f)) (met f).3)) in
+      (numbers, point, sym (box_of_rule own a numbers is point) ∙ first.each, sym (box_of_rule other b numbers too point) ∙ second.each)
+
+  pub not_share : ((numbers : List ℕ) → Has a numbers → Has b numbers → ⊥) → ShareNumbers own other → ⊥
+  not_share none w =
+      none w.0 (record { each = box_of_rule own a w.0 is w.1 ∙ w.2 }) (record { each = box_of_rule other b w.0 too w.1 ∙ w.3 })
+
+-- ---- Boxes that a rule parts: what it may match of them.
+
+-- the part that it matches, alone
+pub whole_inside : (rule : Rule) (box inside : List SpanSet) (outside : List (List SpanSet)) (numbers : List ℕ) → IsCut rule box inside outside → IsPoint numbers → matches numbers rule ≡ true → Has box numbers → IsInSome ([] ++ inside ∷ []) numbers
+whole_inside rule box inside outside numbers cut point m has = (inside, Contains-push [] inside, cut.matched numbers point has m)
+
+-- ---- Parts of a box: that they have numbers, and share none.
 
 -- two boxes that meet have numbers in common
 pub common_numbers : (own other : List SpanSet) → AreMet own other → (numbers : List ℕ) × IsPoint numbers × Has own numbers × Has other numbers

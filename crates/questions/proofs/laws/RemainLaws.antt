@@ -9,7 +9,7 @@ use Rattle.questions.specs.Foreign.{AgreeOnOpen, Agrees, Assignment, IsUnanswere
 use Rattle.questions.specs.declared.foreign.answers.Answer.{Answer}
 use Rattle.questions.specs.declared.foreign.need.Need.{Need}
 use Rattle.questions.proofs.laws.AnswerLaws.{is_given, unmet_by}
-use Rattle.questions.specs.steps.Remaining.{AreAlikeInAll, AreAlikeInChain, AreAlikeInTurn, AreFree, AreFreeInAll, AreFreeInChain}
+use Rattle.questions.specs.steps.Answered.{AreAlikeInAll, AreAlikeInChain, AreAlikeInTurn, AreFree, AreFreeInAll, AreFreeInChain}
 
 and_true : (b : Bool) → (b && true) ≡ b
 and_true true = refl

@@ -7,16 +7,16 @@ use Rattle.std.proofs.lemmas.List.Elements.{All-contains, All-pop, All-push, Con
 use Rattle.std.proofs.lemmas.List.Sums.{list_all-from_AllPass}
 use Rattle.std.proofs.lemmas.Option.{get_or_from_slice_get, slice_get-get_or}
 use Rattle.fields.specs.numbers.Spans.{SpanSet}
-use Rattle.fields.specs.packet.Packet.{PacketView as Packet}
-use Rattle.classify.specs.classifier.Classifier.{IsPoint}
-use Rattle.rules.specs.boxing.Boxed.{IsBoxOf}
+use Rattle.fields.specs.Packet.{PacketView as Packet}
+use Rattle.classify.specs.Classifier.{IsPoint}
+use Rattle.rules.specs.Boxed.{IsBoxOf}
 use Rattle.rules.specs.declared.rule.target.Target.{Target}
 use Rattle.rules.specs.rule.Actions.{target_of}
 use Rattle.rules.specs.rule.Allows.{matches}
 use Rattle.rules.specs.rule.Rules.{Rule, empty_rule}
 use Rattle.table.specs.chains.Sound.{IsSound}
 use Rattle.fields.specs.declared.packet.hook.Hook.{Hook}
-use Rattle.fields.specs.packet.Hook.{name as hook_name}
+use Rattle.fields.specs.Hook.{name as hook_name}
 use Rattle.table.specs.chains.Table.{Chain, Table, chain_at, chain_in, empty_chain, is_named, rules_of}
 use Rattle.table.specs.steps.Kept.{hook_index}
 use Rattle.table.proofs.laws.chains.PlaceLaws.{IsPlaced, placed_at}
@@ -29,30 +29,26 @@ use Rattle.questions.specs.Leaves.{entry_of, name_at}
 use Rattle.questions.specs.Scopes.{answered, table_of, whole_of}
 use Rattle.questions.specs.asked.Always.{IsAlwaysDeadAt}
 use Rattle.questions.specs.asked.Unclear.{HaveAll}
-use Rattle.questions.specs.boxes.Area.{Has, IsAtHook, IsBoth, IsIn}
+use Rattle.questions.specs.boxes.Boxes.{Has, IsAtHook, IsBoth, IsIn}
 use Rattle.questions.specs.boxes.Cut.{IsCut, IsInSome, IsPartedFor}
 use Rattle.questions.specs.declared.foreign.answers.Answer.{Answer}
 use Rattle.questions.specs.declared.foreign.need.Need.{Need}
 use Rattle.questions.specs.declared.foreign.subject.Subject.{Subject}
 use Rattle.questions.specs.declared.walking.scope.Scope.{Scope}
 use Rattle.questions.specs.steps.Answered.{IsMeeting, MeetsNever}
-use Rattle.questions.specs.steps.Meant.{IsScopeAt, needs_of}
-use Rattle.questions.specs.steps.Takers.{IsMatchedAt}
+use Rattle.questions.specs.steps.Takers.{IsScopeAt, needs_of, IsMatchedAt}
 use Rattle.questions.specs.steps.Seeking.{AddsBoxes, AddsParts, AllMatch, IsHere, IsLeftIn, IsSameScope, AllWant, AreAllWays, EndsAt, IsAheadOn, IsPlaceOf, IsTakenBy, KeepsIn, KeepsWanted, LeadsAwayAt, MayCome, NoneAheadTakesOut, TakesBy, TakesOver, chains_of, top_of}
 use Rattle.questions.specs.steps.Tried.{TakesOn}
-use Rattle.questions.specs.steps.Straying.{Hits, IsLedAway, IsOpenWay, LeadsAway, TakesOut, place_at}
+use Rattle.questions.specs.steps.Straying.{Hits, IsLedAway, IsOpenWay, LeadsAway, TakesOut, place_at, Decides}
 use Rattle.questions.specs.boxes.Calls.{AreCalls, place_named}
 use Rattle.questions.specs.declared.seeking.calls.Call.{Call}
 use Rattle.questions.specs.declared.seeking.way.Way.{Way}
-use Rattle.questions.specs.steps.Ahead.{Decides}
 use Rattle.questions.proofs.laws.AnswerLaws.{agrees_with_one_more, one_holds}
 use Rattle.questions.proofs.laws.AreaLaws.{has_of_rule, some_left}
-use Rattle.questions.proofs.laws.CallLaws.{listed, own_position}
-use Rattle.questions.proofs.laws.EndLaws.{none_some, rule_of_entry, rules_there}
-use Rattle.questions.proofs.laws.NeverLaws.{never_matches}
-use Rattle.questions.proofs.laws.ResolvedLaws.{chain_left, held_before, length_same, matched_before, resolved_is, resolved_matches, chain_named, resolved_not, rule_back}
+use Rattle.questions.proofs.laws.WayLaws.{listed, own_position}
+use Rattle.questions.proofs.laws.TrailLaws.{none_some, rule_of_entry, rules_there, IsMatched, one_place, rule_matches, trail_matches}
+use Rattle.questions.proofs.laws.ResolvedLaws.{never_matches, chain_left, held_before, length_same, matched_before, resolved_is, resolved_matches, chain_named, resolved_not, rule_back}
 use Rattle.questions.proofs.laws.ForeignLaws.{left_sound}
-use Rattle.questions.proofs.laws.TrailLaws.{IsMatched, one_place, rule_matches, trail_matches}
 use Rattle.questions.proofs.laws.StrayLaws.{comes_by_way}
 use Rattle.questions.proofs.laws.WaitLaws.{any_kept, any_last, named_first}
 

@@ -3,11 +3,11 @@ use Rattle.std.proofs.Common.{◌≡◌, inl, inr, ℕ, ◌+◌, List, length, s
 use Rattle.std.proofs.Math.Numerals.{add-one}
 use Rattle.std.proofs.lemmas.List.Elements.{All-pop, Contains-push_cases}
 use Rattle.fields.specs.declared.packet.hook.Hook.{Hook}
-use Rattle.fields.specs.packet.Packet.{PacketView as Packet}
+use Rattle.fields.specs.Packet.{PacketView as Packet}
 use Rattle.table.specs.chains.Table.{Table}
 use Rattle.questions.specs.Foreign.{Assignment}
 use Rattle.questions.specs.Scopes.{AreExactUnder, AreLeavesUnder, EndsUnder, IsOf, IsSurely, Known, ShowsUnder, Whole, known_under, left_under}
-use Rattle.questions.specs.boxes.Area.{IsAtHook}
+use Rattle.questions.specs.boxes.Boxes.{IsAtHook}
 use Rattle.questions.specs.steps.Taken.{GetsTo, IsStep, AreSteps}
 use Rattle.questions.specs.steps.Waiting.{WaitsIn, IsAccounted, FitsTask, AreThere, Begins}
 use Rattle.questions.specs.declared.walking.front.Front.{Front}

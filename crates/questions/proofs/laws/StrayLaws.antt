@@ -4,8 +4,8 @@ use Rattle.std.specs.Prelude.{IsFalse}
 use Rattle.std.proofs.lemmas.Bool.{cases_lt, cases_eq, true≢false}
 use Rattle.std.proofs.lemmas.List.Elements.{All-nil, All-push, All-contains}
 use Rattle.std.proofs.lemmas.Option.{slice_get-get_or, slice_get_past}
-use Rattle.fields.specs.packet.Hook.{name as hook_name}
-use Rattle.fields.specs.packet.Packet.{PacketView as Packet}
+use Rattle.fields.specs.Hook.{name as hook_name}
+use Rattle.fields.specs.Packet.{PacketView as Packet}
 use Rattle.rules.specs.declared.rule.target.Target.{Target}
 use Rattle.rules.specs.declared.rule.target.Target.TheVariants as target
 use Rattle.rules.specs.rule.Actions.{target_of}
@@ -16,9 +16,8 @@ use Rattle.table.specs.declared.verdict.Verdict.{Verdict}
 use Rattle.table.specs.walk.Cases.{Stage, Under, Over, next_rule, behind, on_by, StepsTo, GoesTo}
 use Rattle.table.specs.walk.Walk.{Rest, Entry, Next, Ends as EndsWith, GoesOn, after_match, end_verdict, walk, whole}
 use Rattle.table.proofs.laws.walk.CaseLaws.{walks_by_cases}
-use Rattle.questions.specs.steps.Ahead.{Decides}
-use Rattle.questions.specs.steps.Straying.{Ends, Hits, IsEnded, IsLedAway, IsOpenWay, LeadsAway, TakesOut, place_of}
-use Rattle.questions.proofs.laws.EndLaws.{none_some}
+use Rattle.questions.specs.steps.Straying.{Decides, Ends, Hits, IsEnded, IsLedAway, IsOpenWay, LeadsAway, TakesOut, place_of}
+use Rattle.questions.proofs.laws.TrailLaws.{none_some}
 
 some_same : {X : Type 0} (a b : X) → ◌≡◌ {A = Option X} (Some a) (Some b) → a ≡ b
 some_same a b e = cc

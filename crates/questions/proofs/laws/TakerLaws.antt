@@ -12,10 +12,10 @@ use Rattle.fields.specs.declared.numbers.field.Field.{Field}
 use Rattle.fields.specs.declared.numbers.field.Field.TheVariants as field
 use Rattle.fields.specs.declared.packet.hook.Hook.{Hook}
 use Rattle.fields.specs.declared.packet.hook.Hook.TheVariants.{Input, Forward, Output}
-use Rattle.fields.specs.packet.Hook.{all_hooks, name as hook_name}
+use Rattle.fields.specs.Hook.{all_hooks, name as hook_name}
 use Rattle.fields.specs.numbers.Spans.{SpanSet, has}
-use Rattle.fields.specs.packet.Packet.{PacketView as Packet, IsPacket, point}
-use Rattle.rules.specs.boxing.Boxed.{IsBoxOf, set_on}
+use Rattle.fields.specs.Packet.{PacketView as Packet, IsPacket, point}
+use Rattle.rules.specs.Boxed.{IsBoxOf, set_on}
 use Rattle.rules.specs.rule.Allows.{allows_each, matches}
 use Rattle.rules.specs.rule.Crossing.{cross}
 use Rattle.rules.specs.rule.Rules.{Rule}
@@ -28,10 +28,9 @@ use Rattle.questions.specs.Foreign.{Assignment, all_hold, needs_at, resolved, re
 use Rattle.questions.specs.Leaves.{entry_of}
 use Rattle.questions.specs.Scopes.{EndsUnder, IsOf, IsSurely, Known, answered, known_by, scope_of, table_of, under}
 use Rattle.questions.specs.asked.Always.{IsAlwaysDead, IsAlwaysDeadAt}
-use Rattle.questions.specs.asked.Reason.{IsDecidedAmong, IsDecidedBy, IsImpossible, IsLed, IsUnreached}
+use Rattle.questions.specs.asked.Reason.{IsDecidedAmong, IsDecidedBy, IsImpossible, IsLed, IsUnreached, HasLetInUnder, HasPacketUnder, IsAtStakeUnder, IsMeantUnder, IsTakenUnder}
 use Rattle.questions.specs.asked.Unknown.{IsUndecidedUnder}
-use Rattle.questions.specs.asked.Why.{HasLetInUnder, HasPacketUnder, IsAtStakeUnder, IsMeantUnder, IsTakenUnder}
-use Rattle.questions.specs.boxes.Area.{Has, HasOwnInterfaces, IsAtHook, IsBoth, IsIn}
+use Rattle.questions.specs.boxes.Boxes.{Has, HasOwnInterfaces, IsAtHook, IsBoth, IsIn}
 use Rattle.questions.specs.declared.asked.reach.Given.{Given}
 use Rattle.questions.specs.declared.asked.takers.Takers.{Takers}
 use Rattle.questions.specs.declared.foreign.answers.Answer.{Answer}
@@ -42,19 +41,15 @@ use Rattle.questions.specs.declared.walking.task.Leaf.{Leaf}
 use Rattle.questions.specs.steps.Answered.{IsMeeting, MeetsNever}
 use Rattle.questions.specs.steps.Deciding.{AllTake, AreBefore, AreTakersOf, EndsAs, IsAsked, IsMatchedUnder, IsTakenAt, IsWalked, TakesOne}
 use Rattle.questions.specs.steps.Exact.{AreExactWalksUnder, IsExactUnder}
-use Rattle.questions.specs.steps.Meant.{IsScopeAt, IsScopeBy, needs_of}
-use Rattle.questions.specs.steps.Takers.{Grows, IsAmong, IsBoxAt, IsBoxBy, IsByThis, IsLetBy, Takes, TakesAll}
+use Rattle.questions.specs.steps.Takers.{IsScopeAt, IsScopeBy, needs_of, Grows, IsAmong, IsBoxAt, IsBoxBy, IsByThis, IsLetBy, Takes, TakesAll}
 use Rattle.questions.proofs.laws.AnswerLaws.{some_assignment_gives}
 use Rattle.questions.proofs.laws.AreaLaws.{box_of_rule, has_of_rule, on_field}
-use Rattle.questions.proofs.laws.EndLaws.{by_policy_where, decider_is_rule, decider_under, none_some}
+use Rattle.questions.proofs.laws.TrailLaws.{by_policy_where, decider_is_rule, decider_under, none_some, step_by, items_next, rule_matches}
 use Rattle.questions.proofs.laws.ForeignLaws.{left_sound, path_kept}
-use Rattle.questions.proofs.laws.HeldLaws.{step_by}
 use Rattle.questions.proofs.laws.LeadLaws.{entry_led}
-use Rattle.questions.proofs.laws.NeverLaws.{never_matches}
+use Rattle.questions.proofs.laws.ResolvedLaws.{never_matches, chain_named, count_left, entry_left, length_same, resolved_is, resolved_not, rule_at_left, rule_left_there, there_left}
 use Rattle.questions.proofs.laws.PlainLaws.{gives_none}
 use Rattle.questions.proofs.laws.ReachLaws.{packet_with, with_inside, with_packet}
-use Rattle.questions.proofs.laws.ResolvedLaws.{chain_named, count_left, entry_left, length_same, resolved_is, resolved_not, rule_at_left, rule_left_there, there_left}
-use Rattle.questions.proofs.laws.TrailLaws.{items_next, rule_matches}
 
 -- ---- a rule on a walk
 

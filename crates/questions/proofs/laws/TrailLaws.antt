@@ -1,12 +1,15 @@
--- Each rule on the trail of a walk matches its packet.
-use Rattle.std.proofs.Common.{◌≡◌, inl, inr, ℕ, zero, suc, ◌+◌, ◌-◌, ◌<◌, true, List, [], ◌∷◌, ◌++◌, length, get_or, refl, sym, ◌∙◌, ap, arith, subst, Option, Some, None, All, Contains, IsTrue}
-use Rattle.std.specs.Prelude.{position, slice_get}
+-- Trails of walks: each rule on one matches its packet, rules put while their needs were open, and who decides at the end.
+use Rattle.std.proofs.Common.{◌≡◌, inl, inr, ℕ, zero, suc, ◌+◌, ◌-◌, ◌<◌, true, List, [], ◌∷◌, ◌++◌, length, get_or, refl, sym, ◌∙◌, ap, arith, subst, Option, Some, None, All, Contains, IsTrue, ◌≤◌, Bool, false, cond, map}
+use Rattle.std.specs.Prelude.{position, slice_get, IfSome, filter}
 use Rattle.std.specs.Option.{option_map}
-use Rattle.std.proofs.lemmas.Bool.{cases_lt, true≢false}
-use Rattle.std.proofs.lemmas.List.{length-map, get_or-map, get_or_default, get_or_past}
-use Rattle.std.proofs.lemmas.List.Elements.{All-nil, All-push, All-contains, Contains-get_or}
-use Rattle.std.proofs.lemmas.Option.{slice_get-get_or}
-use Rattle.fields.specs.packet.Packet.{PacketView as Packet}
+use Rattle.std.proofs.lemmas.Bool.{cases_lt, true≢false, cases_Bool, cond-false, cond-true}
+use Rattle.std.proofs.lemmas.List.{length-map, get_or-map, get_or_default, get_or_past, append-nil, length-append, map-append}
+use Rattle.std.proofs.lemmas.List.Elements.{All-nil, All-push, All-contains, Contains-get_or, All-cons, All-filter, filter-append}
+use Rattle.std.proofs.lemmas.Option.{slice_get-get_or, slice_get_within, get_or_from_slice_get, slice_get-map}
+use Rattle.std.proofs.Math.Seq.{get_or-append_seam}
+use Rattle.std.proofs.lemmas.List.Sums.{count_by-le-length, length-filter}
+use Rattle.std.proofs.lemmas.Slice.Eq.{bytes_eq-Decides}
+use Rattle.fields.specs.Packet.{PacketView as Packet}
 use Rattle.fields.specs.values.Name.{is_name}
 use Rattle.rules.specs.rule.Allows.{matches}
 use Rattle.rules.specs.rule.Rules.{Rule, empty_rule}
@@ -15,14 +18,20 @@ use Rattle.table.specs.chains.Table.{Chain, Table, chain_at, empty_chain, is_nam
 use Rattle.table.specs.declared.verdict.Verdict.{Verdict}
 use Rattle.table.specs.declared.walk.trail.Step.{Step}
 use Rattle.table.specs.declared.walk.trail.Trail.{Trail}
-use Rattle.table.specs.walk.Trail.{Shows, shown}
+use Rattle.table.specs.walk.Walk.{Shows, shown, Entry, Next, Ends, GoesOn, Walked, end_verdict, walk}
 use Rattle.table.specs.walk.Cases.{Stage, Under, Over, StepsTo, GoesTo, on_by}
-use Rattle.table.specs.walk.Walk.{Entry, Next, Ends, GoesOn, Walked, end_verdict, walk}
 use Rattle.table.proofs.laws.chains.KeepLaws.{listed_differ, rules_by_name}
 use Rattle.table.proofs.laws.chains.PlaceLaws.{IsPlaced, differing_at, placed_at}
 use Rattle.table.proofs.laws.walk.CaseLaws.{walks_by_cases}
-use Rattle.questions.specs.Ends.{IsRule, rule_at}
-use Rattle.questions.specs.Leaves.{name_at, entry_of, entries_of}
+use Rattle.questions.specs.Ends.{IsRule, rule_at, decider_of, step_of}
+use Rattle.questions.specs.Leaves.{name_at, entry_of, entries_of, walked_of}
+use Rattle.questions.specs.Scopes.{Known, entries_by, is_met, IsSurely, walked_by}
+use Rattle.questions.specs.declared.walking.task.Pending.{Pending}
+use Rattle.questions.specs.steps.Waiting.{entry_before}
+use Rattle.questions.specs.Foreign.{Agrees}
+use Rattle.questions.specs.declared.walking.task.Leaf.{Leaf}
+
+-- ---- Each rule on the trail of a walk matches its packet.
 
 -- the rule of an entry matches; rules are numbered from 1
 abbrev pub IsMatched : List Chain → List ℕ → Entry → Type 0
@@ -159,3 +168,192 @@ walks_over t walked trail step shows on =
     sym (get_or-map (shown t.chains) walked.trail k (entry_of t.chains step) None lt) ∙ ap (λ (os : List (Option Step)). get_or os k None) shows.steps
     ∙ get_or-map Some trail.steps.items k step None on.1 ∙ ap Some on.2 in
     (k, lt, shown_is t entry step one)
+
+-- ---- Trails on which some rules were put while their needs were open.
+
+-- ---- what a filter keeps
+
+passes : {X : Type 0} (p : X → Bool) (xs : List X) → All (λ x. p x ≡ true) (filter p xs)
+passes p [] = All-nil (λ x. p x ≡ true)
+passes {X} p (x ∷ xs) =
+    let P : List X → Type 0 = λ l. All (λ y. p y ≡ true) l in
+    elim (cases_Bool (p x)) [
+      | inl h ↦ subst P (sym (cond-true (p x) (x ∷ filter p xs) (filter p xs) h)) (All-cons (λ y. p y ≡ true) x (filter p xs) h (passes p xs))
+      | inr un ↦ subst P (sym (cond-false (p x) (x ∷ filter p xs) (filter p xs) un)) (passes p xs)
+    ]
+
+kept_of : {X : Type 0} (p : X → Bool) (xs : List X) (x : X) → Contains (filter p xs) x → Contains xs x × (p x ≡ true)
+kept_of {X} p xs x on =
+    (All-contains (λ (y : X). Contains xs y) (filter p xs) x (All-filter p (λ (y : X). Contains xs y) xs (λ k d lt. Contains-get_or xs k d lt)) on, All-contains (λ (y : X). p y ≡ true) (filter p xs) x (passes p xs) on)
+
+first_of : {X : Type 0} (p : X → Bool) (x : X) (xs : List X) → p x ≡ true → Contains (filter p (x ∷ xs)) x
+first_of {X} p x xs h =
+    let P : List X → Type 0 = λ l. Contains l x in
+    subst P (sym (cond-true (p x) (x ∷ filter p xs) (filter p xs) h)) (0, omega arith, refl)
+
+later_of : {X : Type 0} (p : X → Bool) (x y : X) (xs : List X) → Contains (filter p xs) y → Contains (filter p (x ∷ xs)) y
+later_of {X} p x y xs (k, lt, is) =
+    let P : List X → Type 0 = λ l. Contains l y in
+    elim (cases_Bool (p x)) [
+      | inl h ↦ subst P (sym (cond-true (p x) (x ∷ filter p xs) (filter p xs) h)) (suc k, omega (arith, lt), is)
+      | inr un ↦ subst P (sym (cond-false (p x) (x ∷ filter p xs) (filter p xs) un)) (k, lt, is)
+    ]
+
+pub keeps : {X : Type 0} (p : X → Bool) (xs : List X) (x : X) → Contains xs x → p x ≡ true → Contains (filter p xs) x
+keeps p [] x (k, lt, is) h = absurd (omega (arith, lt))
+keeps {X} p (y ∷ xs) x (zero, lt, is) h =
+    let P : X → Type 0 = λ z. Contains (filter p (z ∷ xs)) x in
+    subst P (sym is) (first_of p x xs h)
+keeps p (y ∷ xs) x (suc k, lt, is) h = later_of p y x xs (keeps p xs x (k, omega (arith, lt), is) h)
+
+-- ---- the last element
+
+-- one that was added at the end is the last
+pub last_pushed : {X : Type 0} (xs : List X) (x : X) → slice_get (xs ++ x ∷ []) (length (xs ++ x ∷ []) - 1) ≡ Some x
+last_pushed xs x =
+    slice_get-get_or (xs ++ x ∷ []) (length (xs ++ x ∷ []) - 1) x (omega (arith, length-append xs (x ∷ [])))
+    ∙ ap Some (ap (λ k. get_or (xs ++ x ∷ []) k x) (omega (arith, length-append xs (x ∷ []))) ∙ get_or-append_seam xs x [] x)
+
+-- one before others isn't
+later_last : {X : Type 0} (x : X) (xs : List X) → 0 < length xs → slice_get (x ∷ xs) (length (x ∷ xs) - 1) ≡ slice_get xs (length xs - 1)
+later_last x xs some = let at : length (x ∷ xs) - 1 ≡ suc (length xs - 1) = omega (arith, some) in ap (slice_get (x ∷ xs)) at
+
+-- a filter that it passes keeps it
+pub last_kept : {X : Type 0} (p : X → Bool) (xs : List X) → IfSome (slice_get xs (length xs - 1)) (λ x. IsTrue (p x)) → slice_get (filter p xs) (length (filter p xs) - 1) ≡ slice_get xs (length xs - 1)
+last_kept p [] h = refl
+last_kept p (x ∷ []) h = ap (λ ys. slice_get ys (length ys - 1)) (cond-true (p x) (x ∷ []) [] h)
+last_kept {X} p (x ∷ y ∷ xs) h =
+    let rest : List X = filter p (y ∷ xs) in
+    let P : Option X → Type 0 = λ o. IfSome o (λ z. IsTrue (p z)) in
+    let later = later_last x (y ∷ xs) (omega arith) in
+    let same : slice_get rest (length rest - 1) ≡ slice_get (y ∷ xs) (length (y ∷ xs) - 1) = last_kept p (y ∷ xs) (subst P later h) in
+    let last : List X → Option X = λ ys. slice_get ys (length ys - 1) in
+    elim (cases_Bool (p x)) [
+      | inl t ↦ (
+          let some = slice_get_within rest (length rest - 1) (get_or (y ∷ xs) (length (y ∷ xs) - 1) y) (same ∙ slice_get-get_or (y ∷ xs) (length (y ∷ xs) - 1) y (omega arith)) in
+          ap last (cond-true (p x) (x ∷ rest) rest t) ∙ later_last x rest (omega (arith, some)) ∙ same ∙ sym later)
+      | inr f ↦ ap last (cond-false (p x) (x ∷ rest) rest f) ∙ same ∙ sym later
+    ]
+
+-- ---- entries
+
+-- the entry of a step of the trail stands there if all holds that its rule needs
+pub on_entries_by : (known : Known) (cs : List Chain) (steps : List Step) (step : Step) → Contains steps step → is_met known step ≡ true → Contains (entries_by known cs steps) (entry_of cs step)
+on_entries_by known cs steps step on met =
+    let (k, lt, is) = keeps (is_met known) steps step on met in
+    (k, omega (arith, lt, length-map (filter (is_met known) steps) (entry_of cs)), get_or-map (entry_of cs) (filter (is_met known) steps) k step (entry_of cs step) lt ∙ ap (entry_of cs) is)
+
+-- and only then
+pub step_by : (t : Table) (known : Known) (steps : List Step) (step : Step) → IsSound t → step.chain < length t.chains → Contains (entries_by known t.chains steps) (entry_of t.chains step) → Contains steps step × (is_met known step ≡ true)
+step_by t known steps step sound lt on = kept_of (is_met known) steps step (step_in t (filter (is_met known) steps) step sound lt on)
+
+-- a trail has no more entries than steps
+pub few_entries : (known : Known) (cs : List Chain) (trail : List Step) → length (entries_by known cs trail) ≤ length trail
+few_entries known cs trail = omega (arith, length-map (filter (is_met known) trail) (entry_of cs), length-filter (is_met known) trail, count_by-le-length (is_met known) trail)
+
+-- ---- the rule that was just tested
+
+-- its step
+abbrev pub step_before : Pending → Step
+step_before at = record { chain = at.chain; number = at.passed }
+
+-- its entry stands on the trail if all holds that it needs
+pub held_trail : (known : Known) (cs : List Chain) (trail : List Step) (at : Pending) → is_met known (step_before at) ≡ true
+    → entries_by known cs (trail ++ step_before at ∷ []) ≡ entries_by known cs trail ++ entry_before cs at ∷ []
+held_trail known cs trail at held =
+    ap (entries_of cs) (filter-append (is_met known) trail (step_before at ∷ []))
+    ∙ map-append (entry_of cs) (filter (is_met known) trail) (filter (is_met known) (step_before at ∷ []))
+    ∙ ap (λ (steps : List Step). entries_by known cs trail ++ entries_of cs steps) (cond-true (is_met known (step_before at)) (step_before at ∷ []) [] held)
+
+-- and else it doesn't
+pub missed_trail : (known : Known) (cs : List Chain) (trail : List Step) (at : Pending) → is_met known (step_before at) ≡ false
+    → entries_by known cs (trail ++ step_before at ∷ []) ≡ entries_by known cs trail
+missed_trail known cs trail at missed =
+    ap (entries_of cs) (filter-append (is_met known) trail (step_before at ∷ []))
+    ∙ map-append (entry_of cs) (filter (is_met known) trail) (filter (is_met known) (step_before at ∷ []))
+    ∙ ap (λ (steps : List Step). entries_by known cs trail ++ entries_of cs steps) (cond-false (is_met known (step_before at)) (step_before at ∷ []) [] missed)
+    ∙ append-nil (entries_by known cs trail)
+
+-- ---- Who decides the walk that a leaf shows: a rule of the table, or the policy.
+
+pub none_some : {X : Type 0} {x : X} → ◌≡◌ {A = Option X} None (Some x) → ⊥
+none_some e = cc
+
+-- where no rule decides the walk that a leaf shows, the policy does
+pub by_policy_where : (leaf : Leaf) → step_of leaf ≡ None → leaf.by_policy ≡ true
+by_policy_where leaf none =
+    elim (cases_Bool leaf.by_policy) [
+      | inl t ↦ t
+      | inr f ↦ absurd (some_last leaf.trail.items (leaf.decided f) (sym (ap (λ b. cond b None (slice_get leaf.trail.items (length leaf.trail.items - 1))) f) ∙ none))
+    ]
+  where
+    some_last : (steps : List Step) → 0 < length steps → slice_get steps (length steps - 1) ≡ None → ⊥
+    some_last [] lt e = absurd (omega (arith, lt))
+    some_last (x ∷ xs) lt e = none_some (sym e ∙ slice_get-get_or (x ∷ xs) (length (x ∷ xs) - 1) x (omega arith))
+
+-- ---- the last of a list
+
+abbrev last : {X : Type 0} → List X → Option X
+last xs = slice_get xs (length xs - 1)
+
+-- the last entry of a trail is the one of its last step
+last_entry : (cs : List Chain) (steps : List Step) → last (entries_of cs steps) ≡ option_map (entry_of cs) (last steps)
+last_entry cs steps = ap (λ n. slice_get (map (entry_of cs) steps) (n - 1)) (length-map steps (entry_of cs)) ∙ slice_get-map (entry_of cs) steps (length steps - 1)
+
+-- ---- the decider
+
+-- the decider of the walk that a leaf shows
+pub decider_shown : (cs : List Chain) (leaf : Leaf) → decider_of (walked_of cs leaf) ≡ option_map (entry_of cs) (step_of leaf)
+decider_shown cs leaf = by_case leaf.by_policy
+  where
+    by_case : (b : Bool) → cond b None (last (entries_of cs leaf.trail.items)) ≡ option_map (entry_of cs) (cond b None (last leaf.trail.items))
+    by_case true = refl
+    by_case false = last_entry cs leaf.trail.items
+
+-- the same of one that it shows where its answers are right, if all holds then that the rule needs which decides it
+pub decider_under : (known : Known) (cs : List Chain) (leaf : Leaf) → IsSurely known leaf → Agrees known.holds leaf.answers → decider_of (walked_by known cs leaf) ≡ option_map (entry_of cs) (step_of leaf)
+decider_under known cs leaf surely agrees = by_case leaf.by_policy (surely agrees)
+  where
+    steps : List Step
+    steps = leaf.trail.items
+
+    by_case : (b : Bool) → IfSome (cond b None (last steps)) (λ step. IsTrue (is_met known step)) → cond b None (last (entries_by known cs steps)) ≡ option_map (entry_of cs) (cond b None (last steps))
+    by_case true met = refl
+    by_case false met = last_entry cs (filter (is_met known) steps) ∙ ap (option_map (entry_of cs)) (last_kept (is_met known) steps met)
+
+-- a chain that has a rule is there
+pub rules_there : (cs : List Chain) (name : List ℕ) (k : ℕ) (rule : Rule) → slice_get (rules_of cs name) k ≡ Some rule → (j : ℕ) × (j < length cs) × (name_at cs j ≡ name)
+rules_there [] name k rule e = absurd (none_some e)
+rules_there (c ∷ cs) name k rule e =
+    elim (cases_Bool (is_named name c)) [
+      | inl t ↦ (0, omega arith, (bytes_eq-Decides c.name name).0 t)
+      | inr f ↦ (
+          let r = rules_there cs name k rule (sym (ap (λ b. slice_get (cond b c.rules (rules_of cs name)) k) f) ∙ e) in
+          (suc r.0, omega (arith, r.1), r.2))
+    ]
+
+-- the step of an entry on a trail is a rule of the table
+pub rule_of_entry : (t : Table) (p : Packet) (step : Step) → IsSound t → IsMatched t.chains p.values (entry_of t.chains step) → IsRule t step
+rule_of_entry t p step s m =
+    let there = rules_there t.chains (name_at t.chains step.chain) (step.number - 1) m.0 m.1 in
+    let at : step.chain ≡ there.0 = one_place t step.chain there.0 s there.1 (sym there.2) in
+    let lt : step.chain < length t.chains = omega (arith, at, there.1) in
+    let own : rules_of t.chains (name_at t.chains step.chain) ≡ (chain_at t step.chain).rules = rules_by_name t (chain_at t step.chain) s (Contains-get_or t.chains step.chain (empty_chain []) lt) in
+    let within : step.number - 1 < length (rules_of t.chains (name_at t.chains step.chain)) = slice_get_within (rules_of t.chains (name_at t.chains step.chain)) (step.number - 1) m.0 m.1 in
+    let long : length (rules_of t.chains (name_at t.chains step.chain)) ≡ length (chain_at t step.chain).rules = ap (λ (rs : List Rule). length rs) own in
+    record { chain = lt; first = m.3; last = omega (arith, within, long) }
+
+-- so is the one that decides a packet's walk
+pub decider_is_rule : (t : Table) (p : Packet) (by : Option Step) → IsSound t → decider_of (walk t p) ≡ option_map (entry_of t.chains) by → IfSome by (IsRule t)
+decider_is_rule t p None s e = tt
+decider_is_rule t p (Some step) s e = rule_of_entry t p step s (All-contains (IsMatched t.chains p.values) trail entry (trail_matches t p) (on_trail (walk t p).by_policy e))
+  where
+    trail : List Entry
+    trail = (walk t p).trail
+
+    entry : Entry
+    entry = entry_of t.chains step
+
+    on_trail : (b : Bool) → cond b None (last trail) ≡ Some entry → Contains trail entry
+    on_trail true is = absurd (none_some is)
+    on_trail false is = let k : ℕ = length trail - 1 in (k, slice_get_within trail k entry is, get_or_from_slice_get trail k entry entry is)

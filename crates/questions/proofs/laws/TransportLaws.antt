@@ -6,11 +6,11 @@ use Rattle.fields.specs.declared.numbers.field.Field.{Field}
 use Rattle.fields.specs.declared.numbers.field.Field.TheVariants as field
 use Rattle.fields.specs.numbers.Field.{all_fields, index, number_on, top}
 use Rattle.fields.specs.numbers.Spans.{SpanSet, has}
-use Rattle.fields.specs.packet.Packet.{PacketView as Packet, IsPacket, carries_key, point}
+use Rattle.fields.specs.Packet.{PacketView as Packet, IsPacket, carries_key, point}
 use Rattle.fields.specs.values.Protocol.{carries_ports}
-use Rattle.rules.proofs.laws.boxing.BoxLaws.{here_is, index-lt}
-use Rattle.classify.specs.classifier.Classifier.{IsPoint}
-use Rattle.questions.specs.boxes.Area.{Has, HasOwnInterfaces, IsAtHook, IsNarrowed}
+use Rattle.rules.proofs.laws.BoxLaws.{here_is, index-lt}
+use Rattle.classify.specs.Classifier.{IsPoint}
+use Rattle.questions.specs.boxes.Boxes.{Has, HasOwnInterfaces, IsAtHook, IsNarrowed}
 use Rattle.questions.specs.declared.boxes.transport.Transport.{Transport}
 use Rattle.questions.specs.declared.boxes.transport.Transport.TheVariants.{Tcp, Ports, Icmp, Other, Missing}
 use Rattle.questions.specs.steps.Transports.{AreNumbersWith, Fits, HasTransport, IsFirstWith, IsKept, IsWithTransport, all_transports, fits, fragment_of, is_ported, with_flags, with_ports, with_type}

@@ -9,8 +9,8 @@ use Rattle.std.proofs.lemmas.Option.{slice_get_past, slice_get-get_or}
 use Rattle.fields.specs.declared.packet.hook.Hook.{Hook}
 use Rattle.fields.specs.declared.packet.hook.Hook.TheVariants.{Input, Forward, Output}
 use Rattle.fields.specs.numbers.Spans.{SpanSet}
-use Rattle.fields.specs.packet.Hook.{name as hook_name}
-use Rattle.fields.specs.packet.Packet.{PacketView as Packet}
+use Rattle.fields.specs.Hook.{name as hook_name}
+use Rattle.fields.specs.Packet.{PacketView as Packet}
 use Rattle.rules.specs.rule.Actions.{target_of}
 use Rattle.rules.specs.rule.Allows.{matches}
 use Rattle.rules.specs.rule.Rules.{Rule}
@@ -26,11 +26,11 @@ use Rattle.table.specs.walk.Walk.{Rest, Entry, after_match, end_verdict, whole}
 use Rattle.table.proofs.laws.chains.KeepLaws.{rules_by_name}
 use Rattle.table.proofs.laws.chains.PlaceLaws.{IsPlaced, placed_at, any_none}
 use Rattle.table.proofs.laws.walk.CaseLaws.{walk_is}
-use Rattle.classify.specs.classifier.Classifier.{IsPoint}
+use Rattle.classify.specs.Classifier.{IsPoint}
 use Rattle.questions.specs.Leaves.{name_at}
 use Rattle.questions.specs.Foreign.{Agrees, never}
 use Rattle.questions.specs.Scopes.{EndsUnder, IsOf, IsSurely, Known, ShowsUnder, entries_by, is_met, scope_of, under, walked_by}
-use Rattle.questions.specs.boxes.Area.{Has}
+use Rattle.questions.specs.boxes.Boxes.{Has}
 use Rattle.questions.specs.boxes.Cut.{IsInSome, IsCut, IsPartedFor, IsApart}
 use Rattle.questions.specs.steps.Waiting.{rest_of, rests_of, behind, Reaches, stage_of, WaitsIn, IsAccounted, Belongs, FitsTask, IsThere, AreThere, IsAsked, IsOfSome, Keeps, Moves, PassesOver, Begins, entry_before, IsLastMet}
 use Rattle.questions.specs.declared.foreign.answers.Answer.{Answer}
@@ -41,7 +41,7 @@ use Rattle.questions.specs.declared.walking.task.Pending.{Pending}
 use Rattle.questions.specs.declared.walking.task.Task.{Task}
 use Rattle.questions.proofs.laws.AnswerLaws.{agrees_before, agrees_with_one_more}
 use Rattle.questions.proofs.laws.AreaLaws.{some_left}
-use Rattle.questions.proofs.laws.NeverLaws.{never_matches}
+use Rattle.questions.proofs.laws.ResolvedLaws.{never_matches}
 
 -- ---- one step more
 

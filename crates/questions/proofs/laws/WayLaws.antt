@@ -1,25 +1,145 @@
--- The rules by which packets come into the marked chains, one after another.
-use Rattle.std.proofs.Common.{◌≡◌, inl, inr, ℕ, zero, suc, ◌-◌, ◌<◌, ◌≤◌, Bool, true, false, List, [], ◌∷◌, length, get_or, refl, sym, ◌∙◌, arith, subst, Some, Contains}
-use Rattle.std.proofs.lemmas.Bool.{and_parts, cases_Bool, true≢false}
-use Rattle.std.proofs.lemmas.List.Elements.{Contains-get_or}
+-- The rules that name a chain, those by which packets come into the marked chains, and ways that are tried, one after another.
+use Rattle.std.proofs.Common.{◌≡◌, inl, inr, ℕ, ◌+◌, ◌<◌, ◌≤◌, Bool, true, false, List, [], ◌∷◌, ◌++◌, length, refl, sym, ◌∙◌, ap, arith, subst, Option, Some, None, All, Contains, IsTrue, zero, suc, ◌-◌, get_or}
+use Rattle.std.specs.Prelude.{◌==◌, ◌&&◌, ◌||◌}
+use Rattle.std.specs.List.{list_any, position, list_all}
+use Rattle.std.proofs.lemmas.Bool.{and_parts, cases_eq, eq-eqb, eqb-true, true≢false, cases_Bool}
+use Rattle.std.proofs.lemmas.List.Folds.{Any-from_list_any, list_any-append}
+use Rattle.std.proofs.lemmas.Slice.Eq.{bytes_eq-Decides}
+use Rattle.std.proofs.lemmas.List.Elements.{Contains-get_or, All-append, All-contains, All-nil, All-push}
+use Rattle.std.proofs.Math.Numerals.{add-one}
+use Rattle.std.proofs.lemmas.List.{append-nil, append_assoc}
+use Rattle.rules.specs.rule.Actions.{target_of}
+use Rattle.table.specs.chains.Sound.{IsSound}
+use Rattle.table.specs.chains.Table.{Table, chain_at, empty_chain, is_named, Chain}
+use Rattle.table.specs.declared.walk.trail.Step.{Step}
+use Rattle.table.proofs.laws.chains.PlaceLaws.{any_none, has_at, placed_at}
 use Rattle.fields.specs.declared.packet.hook.Hook.{Hook}
 use Rattle.rules.specs.rule.Allows.{allows_each, matches}
 use Rattle.rules.specs.rule.Crossing.{cross}
 use Rattle.rules.specs.rule.Rules.{Rule}
-use Rattle.classify.specs.classifier.Classifier.{IsPoint}
-use Rattle.table.specs.chains.Sound.{IsSound}
-use Rattle.table.specs.chains.Table.{Chain, Table, chain_at}
-use Rattle.table.specs.declared.walk.trail.Step.{Step}
+use Rattle.classify.specs.Classifier.{IsPoint, box_allows, box_matches}
 use Rattle.table.specs.steps.Kept.{hook_index}
+use Rattle.fields.specs.declared.numbers.field.Field.{Field}
+use Rattle.fields.specs.numbers.Field.{all_fields, number_on}
+use Rattle.fields.specs.numbers.Spans.{SpanSet}
+use Rattle.fields.specs.Packet.{PacketView as Packet}
 use Rattle.questions.specs.Ends.{IsRule, rule_at}
 use Rattle.questions.specs.Leaves.{name_at}
+use Rattle.questions.specs.boxes.Calls.{AreCalls, IsCall, IsCalled, IsCalledIn, is_call, place_named}
+use Rattle.questions.specs.declared.seeking.calls.Call.{Call}
 use Rattle.questions.specs.asked.Reason.{Enters, IsExcluded}
-use Rattle.questions.specs.steps.Leading.{AreSpread, IsMarked, IsMarkedName, PathBy, ShareNumbers}
-use Rattle.questions.specs.steps.Collected.{AddsRules}
-use Rattle.questions.specs.steps.Ways.{IsOpen, IsWay, marked_names}
-use Rattle.questions.proofs.laws.CollectLaws.{AreAll, AreBefore, adds_as, rule_last}
-use Rattle.questions.proofs.laws.TrailLaws.{one_place}
+use Rattle.questions.specs.steps.Leading.{AreSpread, IsMarked, IsMarkedName, PathBy, ShareNumbers, IsOpen, IsWay, marked_names}
+use Rattle.questions.specs.steps.Candidates.{AddsRules}
+use Rattle.questions.specs.Scopes.{Whole}
+use Rattle.questions.specs.boxes.Boxes.{Has, IsIn, IsNarrower}
+use Rattle.questions.specs.boxes.Cut.{IsInSome, AreMet}
+use Rattle.questions.specs.declared.foreign.answers.Answer.{Answer}
+use Rattle.questions.specs.declared.seeking.way.Way.{Way}
+use Rattle.questions.specs.declared.walking.scope.Scope.{Scope}
+use Rattle.questions.specs.steps.Seeking.{IsBoxUnder, IsForOne, AddsBoxes, AddsWays, AreTries, IsLess, IsTry, IsWayFor}
+use Rattle.questions.proofs.laws.TrailLaws.{none_some, one_place}
+use Rattle.questions.proofs.laws.BoxesLaws.{AreAll, AreBefore, adds_as, rule_last}
 use Rattle.questions.proofs.laws.WaitLaws.{named_first}
+use Rattle.questions.proofs.laws.AreaLaws.{on_field}
+
+-- ---- The rules that name a chain, and those by which packets come into the marked chains, one after another.
+
+-- ---- The rules that name a chain, listed one after another.
+
+or_true : (a b : Bool) → a ≡ true → (a || b) ≡ true
+or_true true b h = refl
+or_true false b h = absurd (ne h)
+  where
+    ne : false ≡ true → ⊥
+    ne e = cc
+
+or_last : (a b : Bool) → b ≡ true → (a || b) ≡ true
+or_last true b h = refl
+or_last false b h = h
+
+-- what is listed stays
+pub still_called : (t : Table) (calls new more : List Call) (by : Step) → new ≡ calls ++ more → IsCalled t calls by → IsCalled t new by
+still_called t calls new more by e h to is names =
+    ap (list_any (is_call to by)) e ∙ list_any-append (is_call to by) calls more ∙ or_true (list_any (is_call to by) calls) (list_any (is_call to by) more) (h to is names)
+
+-- a call is the one that it is told to be
+call_is : (to : ℕ) (by : Step) (call : Call) → is_call to by call ≡ true → call ≡ record { to = to; by = by }
+call_is to by call t =
+    let parts = and_parts (call.to == to) ((call.by.chain == by.chain) && (call.by.number == by.number)) t in
+    let more = and_parts (call.by.chain == by.chain) (call.by.number == by.number) parts.1 in
+    let make : ℕ → ℕ → ℕ → Call = λ a b c. record { to = a; by = record { chain = b; number = c } } in
+    ap (λ a. make a call.by.chain call.by.number) (eqb-true call.to to parts.0) ∙ ap (λ b. make to b call.by.number) (eqb-true call.by.chain by.chain more.0)
+    ∙ ap (make to by.chain) (eqb-true call.by.number by.number more.1)
+
+-- each rule is in the list that names a chain
+pub listed : (t : Table) (calls : List Call) (by : Step) (to : ℕ) → AreCalls t calls → IsRule t by → place_named t.chains (target_of (rule_at t by)) ≡ Some to → Contains calls (record { to = to; by = by })
+listed t calls by to all is names =
+    let any = Any-from_list_any (is_call to by) calls (all.all by to is names) in
+    let P : Call → Type 0 = λ c. Contains calls c in
+    subst P (call_is to by any.1 any.4) (any.0, any.2, any.3)
+
+-- the place of a chain's own name
+pub own_position : (t : Table) (k : ℕ) (name : List ℕ) → IsSound t → k < length t.chains → name_at t.chains k ≡ name → position (is_named name) t.chains ≡ Some k
+own_position t k name s lt e = by_case (position (is_named name) t.chains) refl
+  where
+    by_case : (o : Option ℕ) → position (is_named name) t.chains ≡ o → position (is_named name) t.chains ≡ Some k
+    by_case None none = absurd (true≢false (sym (has_at t.chains name k (empty_chain []) lt ((bytes_eq-Decides (name_at t.chains k) name).1 e)) ∙ any_none (is_named name) t.chains none))
+    by_case (Some j) is = is ∙ ap Some (one_place t j k s lt ((placed_at t name j is).named (empty_chain []) ∙ sym e))
+
+is_own : (to : ℕ) (by : Step) → list_any (is_call to by) (record { to = to; by = by } ∷ []) ≡ true
+is_own to by = rw (eq-eqb to to refl, eq-eqb by.chain by.chain refl, eq-eqb by.number by.number refl)
+
+some_same : (a b : ℕ) → ◌≡◌ {A = Option ℕ} (Some a) (Some b) → a ≡ b
+some_same a b e = cc
+
+-- a rule that is listed
+pub now_called : (t : Table) (calls new : List Call) (by : Step) (to : ℕ) → new ≡ calls ++ record { to = to; by = by } ∷ [] → place_named t.chains (target_of (rule_at t by)) ≡ Some to → IsCalled t new by
+now_called t calls new by to e own other is names =
+    let same : to ≡ other = some_same to other (sym own ∙ names) in
+    let P : ℕ → Type 0 = λ k. IsTrue (list_any (is_call k by) new) in
+    let mine : List Call = record { to = to; by = by } ∷ [] in
+    subst P same (ap (list_any (is_call to by)) e ∙ list_any-append (is_call to by) calls mine ∙ or_last (list_any (is_call to by) calls) (list_any (is_call to by) mine) (is_own to by))
+
+-- one that names no chain is listed as it has to be
+pub not_called : (t : Table) (calls : List Call) (by : Step) → place_named t.chains (target_of (rule_at t by)) ≡ None → IsCalled t calls by
+not_called t calls by none to is names = absurd (none_some (sym none ∙ names))
+
+-- of the first so many rules of the chain
+abbrev pub AreCalledBelow : Table → ℕ → ℕ → List Call → Type 0
+AreCalledBelow t place count calls = (by : Step) → by.chain ≡ place → by.number ≤ count → IsCalled t calls by
+
+pub called_next : (t : Table) (place count : ℕ) (old new : List Call) → ((by : Step) → IsCalled t old by → IsCalled t new by) → IsCalled t new (record { chain = place; number = count + 1 }) → AreCalledBelow t place count old → AreCalledBelow t place (count + 1) new
+called_next t place count old new kept here below by at le =
+    elim (cases_eq by.number (count + 1)) [
+      | inr ne ↦ kept by (below by at (omega (arith, ne, le)))
+      | inl e ↦ (
+          let make : ℕ → ℕ → Step = λ c n. record { chain = c; number = n } in
+          let same : by ≡ make place (count + 1) = ap (λ c. make c by.number) at ∙ ap (λ n. make place n) e in
+          let P : Step → Type 0 = λ s. IsCalled t new s in
+          subst P (sym same) here)
+    ]
+
+pub none_called : (t : Table) (place : ℕ) (calls : List Call) → AreCalledBelow t place 0 calls
+none_called t place calls by at le to is names = absurd (omega (arith, le, is.first))
+
+pub all_called : (t : Table) (place count : ℕ) (calls : List Call) → length (chain_at t place).rules ≤ count → AreCalledBelow t place count calls → (by : Step) → by.chain ≡ place → IsCalled t calls by
+all_called t place count calls all below by at to is names =
+    let P : ℕ → Type 0 = λ k. by.number ≤ length (chain_at t k).rules in
+    let within : by.number ≤ length (chain_at t place).rules = subst P at is.last in
+    below by at (omega (arith, within, all)) to is names
+
+-- chain after chain
+pub chains_called : (t : Table) (place : ℕ) (old new : List Call) → IsCalledIn t place old new → ((by : Step) → by.chain < place → IsCalled t old by) → (by : Step) → by.chain < place + 1 → IsCalled t new by
+chains_called t place old new adds before by lt =
+    elim (cases_eq by.chain place) [
+      | inl e ↦ adds.added by e
+      | inr ne ↦ adds.kept by (before by (omega (arith, ne, lt)))
+    ]
+
+pub all_chains_called : (t : Table) (place : ℕ) (calls : List Call) → length t.chains ≤ place → ((by : Step) → by.chain < place → IsCalled t calls by) → All (IsCall t) calls → AreCalls t calls
+all_chains_called t place calls all before only = record { all = λ by to is names. before by (omega (arith, is.chain, all)) to is names; only = only }
+
+-- ---- The rules by which packets come into the marked chains, one after another.
 
 -- ---- the names of the marked chains
 
@@ -128,3 +248,75 @@ module _ (t : Table) (step : Step) (marks : List Bool) (s : IsSound t) (is : IsR
             outside = λ c. true≢false (sym (name_on by.chain w.1.rule.chain c) ∙ w.0);
             names = (w.1.names.0, w.1.names.1, subst P marked.3 (is_among t.chains marks marked.0 marked.1 marked.2));
           }
+
+-- ---- Ways that are tried, one after another.
+
+-- ---- ways that are put there
+
+module _ (P : Way → Type 0) where
+  pub adds_none : (ways : List Way) → AddsWays P ways ways
+  adds_none ways = ([], sym (append-nil ways), All-nil P)
+
+  pub adds_one : (old new : List Way) (way : Way) → new ≡ old ++ way ∷ [] → P way → AddsWays P old new
+  adds_one old new way e is = (way ∷ [], e, All-push P [] way (All-nil P) is)
+
+  pub adds_on : (old mid new : List Way) → AddsWays P old mid → AddsWays P mid new → AddsWays P old new
+  adds_on old mid new (one, e, all) (two, f, too) = (one ++ two, f ∙ ap (λ (ways : List Way). ways ++ two) e ∙ append_assoc old one two, All-append P one two all too)
+
+  pub adds_more : (old mid new : List Way) (way : Way) → new ≡ mid ++ way ∷ [] → P way → AddsWays P old mid → AddsWays P old new
+  adds_more old mid new way e is adds = adds_on old mid new adds (adds_one mid new way e is)
+
+  pub adds_ways_as : (Q : Way → Type 0) (old new : List Way) → ((way : Way) → P way → Q way) → AddsWays P old new → AddsWays Q old new
+  adds_ways_as Q old new holds (more, e, all) = (more, e, λ k d lt. holds (get_or more k d) (all k d lt))
+
+-- the first one is there
+pub first_in : {X : Type 0} (x : X) (xs : List X) → Contains (x ∷ xs) x
+first_in x xs = (0, omega arith, refl)
+
+-- ---- ways for scopes
+
+pub one_less : (way : Way) (scopes : List Scope) → All (IsLess way.scope) scopes → (part : Way) → IsForOne way scopes part → IsWayFor way part
+one_less way scopes all part is = record { wanted = is.wanted; places = is.places; less = All-contains (IsLess way.scope) scopes part.scope all is.scope }
+
+-- one more try
+pub tries_next : (n : ℕ) (t : Whole) (first mid new : List Way) → AreTries n t first mid → IsTry t mid new → AreTries (n + 1) t first new
+tries_next n t first mid new tries one = let P : ℕ → Type 0 = λ m. AreTries m t first new in subst P (sym (add-one n)) (mid, tries, one)
+
+-- ---- a box without another one
+
+some_fails : (p : Field → Bool) (fields : List Field) → list_all p fields ≡ false → (f : Field) × (p f ≡ false)
+some_fails p [] e = absurd (true≢false e)
+some_fails p (f ∷ fields) e =
+    elim (cases_Bool (p f)) [
+      | inr un ↦ (f, un)
+      | inl t ↦ some_fails p fields (sym (ap (λ b. b && list_all p fields) t) ∙ e)
+    ]
+
+-- a box that lacks numbers of another one is narrower
+narrower_of : (box other : List SpanSet) (numbers : List ℕ) → IsPoint numbers → Has box numbers → (Has other numbers → ⊥) → IsNarrower box other
+narrower_of box other numbers point has lacks =
+    elim (cases_Bool (box_matches numbers other)) [
+      | inl t ↦ absurd (lacks (record { each = t }))
+      | inr un ↦ (
+          let (f, off) = some_fails (λ g. box_allows other g (number_on numbers g)) all_fields un in
+          (f, number_on numbers f, point f, on_field box numbers f has.each, off))
+    ]
+
+-- two boxes that have the packet meet
+pub met_by : (p : Packet) (own other : List SpanSet) → IsPoint p.values → IsIn own p → IsIn other p → AreMet own other
+met_by p own other point one two f = (number_on p.values f, point f, on_field own p.values f one.each, on_field other p.values f two.each)
+
+-- the scopes of its parts are smaller, since a packet of the other box is gone
+pub but_less : (p : Packet) (whole : Scope) (own : List SpanSet) (parts : List (List SpanSet)) (scopes : List Scope) → IsPoint p.values → IsIn whole.area p → IsIn own p
+    → ((numbers : List ℕ) → IsPoint numbers → IsInSome parts numbers → Has whole.area numbers × (Has own numbers → ⊥)) → All (IsBoxUnder parts whole.answers) scopes → All (IsLess whole) scopes
+but_less p whole own parts scopes point there inside only all k d lt =
+    let part : Scope = get_or scopes k d in
+    let is : IsBoxUnder parts whole.answers part = all k d lt in
+    record {
+      inside = λ numbers at has. (only numbers at (part.area, is.area, has)).0;
+      less = inl (narrower_of whole.area part.area p.values point there (λ here. (only p.values point (part.area, is.area, here)).1 inside));
+    }
+
+-- scopes that are put where none was
+pub boxes_under : (boxes : List (List SpanSet)) (answers : List Answer) (scopes : List Scope) → AddsBoxes boxes answers [] scopes → All (IsBoxUnder boxes answers) scopes
+boxes_under boxes answers scopes adds = subst (All (IsBoxUnder boxes answers)) (sym adds.only.1) adds.only.2

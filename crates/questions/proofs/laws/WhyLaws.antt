@@ -1,23 +1,24 @@
--- Why a rule is dead, where no rule needs anything.
-use Rattle.std.proofs.Common.{◌≡◌, ◌⊎◌, inl, inr, ◌-◌, ℕ, Bool, true, false, not, List, [], ◌∷◌, get_or, refl, sym, subst, arith, Option, Some, None, Any, Contains}
-use Rattle.std.specs.Prelude.{IfOk, MatchOption, Result}
+-- Why a rule is dead, and that no walk of the packets it would match is too long.
+use Rattle.std.proofs.Common.{◌≡◌, ◌⊎◌, inl, inr, ◌-◌, ℕ, Bool, true, false, not, List, [], ◌∷◌, get_or, refl, sym, subst, arith, Option, Some, None, Any, Contains, ◌∙◌}
+use Rattle.std.specs.Prelude.{IfOk, MatchOption, Result, ◌≢◌}
 use Rattle.std.specs.declared.alloc.AllocError.{AllocError}
 use Rattle.std.proofs.lemmas.Bool.{true≢false}
 use Rattle.std.proofs.lemmas.Result.{IfOk-weaker}
 use Rattle.fields.specs.declared.packet.hook.Hook.{Hook}
-use Rattle.fields.specs.packet.Packet.{PacketView as Packet}
+use Rattle.fields.specs.Packet.{PacketView as Packet}
 use Rattle.table.specs.declared.walk.trail.Step.{Step}
 use Rattle.table.specs.walk.Walk.{walk}
+use Rattle.rules.specs.rule.Allows.{matches}
+use Rattle.rules.specs.rule.Rules.{Rule}
+use Rattle.table.specs.declared.verdict.Verdict.TheVariants.{TooLong}
 use Rattle.questions.specs.Foreign.{Agrees, Assignment, all_hold, needs_at}
 use Rattle.questions.specs.Leaves.{entry_of}
-use Rattle.questions.specs.Scopes.{table_of, under, whole_of}
-use Rattle.questions.specs.asked.Reason.{Explains, HasPacket, IsAtStake, IsDecidedAmong, IsDecidedBy, IsMeantFor, IsReason, IsTaken}
+use Rattle.questions.specs.Scopes.{table_of, under, whole_of, answered}
+use Rattle.questions.specs.asked.Reason.{Explains, HasPacket, IsAtStake, IsDecidedAmong, IsDecidedBy, IsMeantFor, IsReason, IsTaken, IsLed, ExplainsUnder, HasPacketUnder, IsAtStakeUnder, IsMeantUnder, IsReasonUnder, IsTakenUnder, AreNeverTooLong, AreNeverTooLongUnder}
 use Rattle.questions.specs.asked.Rule.{IsDead}
 use Rattle.questions.specs.asked.Unknown.{CantBeWalked, IsUndecided, IsUndecidedAt, IsUndecidedAtUnder, IsUndecidedUnder, IsOnSome}
-use Rattle.questions.specs.asked.Why.{ExplainsUnder, HasPacketUnder, IsAtStakeUnder, IsMeantUnder, IsReasonUnder, IsTakenUnder}
 use Rattle.questions.specs.declared.asked.reach.Given.{Given}
 use Rattle.questions.specs.declared.asked.reason.Reason.{Reason}
-use Rattle.questions.specs.declared.asked.reason.Reason.TheVariants as reason
 use Rattle.questions.specs.declared.asked.takers.Takers.{Takers}
 use Rattle.questions.specs.declared.foreign.answers.Answer.{Answer}
 use Rattle.questions.specs.declared.foreign.need.Need.{Need}
@@ -25,12 +26,19 @@ use Rattle.questions.specs.declared.foreign.subject.Subject.{Subject}
 use Rattle.questions.specs.declared.walking.task.Leaf.{Leaf}
 use Rattle.questions.specs.steps.Answered.{IsMeeting}
 use Rattle.questions.specs.steps.Exact.{AreExactWalks}
-use Rattle.questions.specs.steps.Meant.{needs_of}
+use Rattle.questions.specs.steps.Takers.{needs_of, IsBoxBy, IsMatchedAt}
 use Rattle.questions.specs.steps.Taken.{IsUnfinishedUnder}
-use Rattle.questions.specs.steps.Takers.{IsBoxBy}
+use Rattle.questions.specs.Ends.{IsRule, rule_at}
+use Rattle.questions.specs.asked.Always.{AreAlwaysShort}
+use Rattle.questions.specs.declared.asked.rule.Life.{Life}
+use Rattle.questions.specs.declared.asked.rule.Life.TheVariants.{Dead}
+use Rattle.questions.specs.declared.asked.reason.Reason.TheVariants as reason
 use Rattle.questions.proofs.laws.ExactLaws.{cant_be_walked, exact_walks_plain}
 use Rattle.questions.proofs.laws.PlainLaws.{gives_none, to_plain}
 use Rattle.questions.proofs.laws.TakerLaws.{boxed_by}
+use Rattle.questions.proofs.laws.ResolvedLaws.{resolved_is, rule_at_left}
+
+-- ---- Why a rule is dead, where no rule needs anything.
 
 -- answers that each assignment gives are none
 no_answers : (answers : List Answer) → ((a : Assignment) → Agrees a answers) → answers ≡ []
@@ -131,3 +139,29 @@ module _ (s : Subject) (none : s.needs.now ≡ []) (step : Step) where
 pub plain_why : (s : Subject) → s.needs.now ≡ [] → (step : Step) (budget : ℕ) (result : Result (Option Reason) AllocError) → IfOk result (λ found. MatchOption found (IsUndecidedUnder s step budget) (ExplainsUnder s step))
     → IfOk result (λ found. MatchOption found (IsUndecided (table_of s) step budget) (Explains (table_of s) step))
 plain_why s none step budget result h = IfOk-weaker result (λ found. MatchOption found (IsUndecidedUnder s step budget) (ExplainsUnder s step)) (λ found. MatchOption found (IsUndecided (table_of s) step budget) (Explains (table_of s) step)) (found_plain s none step budget) h
+
+-- ---- Walks of the packets that a rule would match.
+
+-- where jumps and gotos lead from the hook to the rule's chain, no walk of a packet there that the rule matches is too long, whatever holds
+abbrev pub AreShortAt : Subject → Step → Hook → Type 0
+AreShortAt s step hook = IsLed (table_of s) step hook → AreAlwaysShort s step hook
+
+-- a packet that the rule would match is one that it matches in what is left of the table
+matched_left : (s : Subject) (a : Assignment) (step : Step) (p : Packet) → IsRule (table_of s) step → IsMeantUnder s a step p → IsMatchedAt (answered s a) step p.hook p
+matched_left s a step p is meant =
+    let P : Rule → Type 0 = λ r. matches p.values r ≡ true in
+    let own = needs_at s.needs.now step.chain (step.number - 1) in
+    record {
+      can = meant.meant.can;
+      there = refl;
+      matched = subst P (sym (rule_at_left s.needs.now a (table_of s) step is ∙ resolved_is a own (rule_at (table_of s) step) meant.held)) meant.meant.matched;
+    }
+
+pub never_too_long : (s : Subject) (step : Step) → IsRule (table_of s) step → ((hook : Hook) → AreShortAt s step hook) → AreNeverTooLongUnder s step
+never_too_long s step is short a p meant = short p.hook meant.meant.led a p (matched_left s a step p is meant)
+
+-- of a call's answer, where no rule needs anything
+pub short_plain : (s : Subject) → s.needs.now ≡ [] → (step : Step) (result : Result Life AllocError) → IfOk result (λ life. life ≡ Dead → AreNeverTooLongUnder s step) → IfOk result (λ life. life ≡ Dead → AreNeverTooLong (table_of s) step)
+short_plain s none step result h =
+    IfOk-weaker result (λ life. life ≡ Dead → AreNeverTooLongUnder s step) (λ life. life ≡ Dead → AreNeverTooLong (table_of s) step)
+    (λ life short dead p meant. to_plain s none (λ t. (walk t p).verdict ≢ TooLong) (any s none step) (short dead (any s none step) p (meant_under s none step p meant))) h

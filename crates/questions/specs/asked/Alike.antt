@@ -1,7 +1,7 @@
 -- What the answer to a comparison of two tables says, for every assignment of conditions that this program doesn't know.
 use Rattle.std.specs.Prelude.{◌≡◌, ◌≢◌, List, Any}
 use Rattle.fields.specs.declared.packet.hook.Hook.{Hook}
-use Rattle.fields.specs.packet.Packet.{PacketView as Packet}
+use Rattle.fields.specs.Packet.{PacketView as Packet}
 use Rattle.table.specs.declared.verdict.Verdict.{Verdict}
 use Rattle.table.specs.declared.walk.trail.Step.{Step}
 use Rattle.table.specs.walk.Walk.{walk}
@@ -9,7 +9,7 @@ use Rattle.questions.specs.Foreign.{Agrees, AreConsistent, Assignment}
 use Rattle.questions.specs.Scopes.{IsOf, answered, known_by, scope_of, table_of}
 use Rattle.questions.specs.Written.{IsSampleOf}
 use Rattle.questions.specs.asked.Verdicts.{IsAlike, IsOther, IsOtherAt, IsSame, IsSameAt}
-use Rattle.questions.specs.boxes.Area.{IsAtHook}
+use Rattle.questions.specs.boxes.Boxes.{IsAtHook}
 use Rattle.questions.specs.declared.asked.likeness.Likeness.{Likeness}
 use Rattle.questions.specs.declared.asked.likeness.Likeness.TheVariants.{Same, Differ, Unclear}
 use Rattle.questions.specs.declared.asked.other.Shown.{Shown}

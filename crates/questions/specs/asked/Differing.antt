@@ -2,7 +2,7 @@
 use Rattle.std.specs.Prelude.{◌≡◌, ◌≢◌, ◌⊎◌, ℕ, Bool, IsTrue, List, []}
 use Rattle.fields.specs.declared.packet.hook.Hook.{Hook}
 use Rattle.fields.specs.numbers.Spans.{SpanSet}
-use Rattle.fields.specs.packet.Packet.{PacketView as Packet}
+use Rattle.fields.specs.Packet.{PacketView as Packet}
 use Rattle.table.specs.declared.walk.trail.Step.{Step}
 use Rattle.table.specs.walk.Walk.{Entry, end_verdict}
 use Rattle.questions.specs.Ends.{IsRule}
@@ -14,12 +14,12 @@ use Rattle.questions.specs.asked.Changes.{AreChanged}
 use Rattle.questions.specs.asked.Rule.{IsDeadAt}
 use Rattle.questions.specs.asked.Unclear.{MayLiveUnder}
 use Rattle.questions.specs.asked.Verdicts.{IsAlike}
-use Rattle.questions.specs.boxes.Area.{IsAtHook, IsBoth, IsIn}
+use Rattle.questions.specs.boxes.Boxes.{IsAtHook, IsBoth, IsIn}
 use Rattle.questions.specs.declared.asked.likeness.Likeness.{Likeness}
 use Rattle.questions.specs.declared.asked.likeness.Likeness.TheVariants.{Same, Differ, Unclear}
 use Rattle.questions.specs.declared.walking.scope.Scope.{Scope}
 use Rattle.questions.specs.declared.walking.task.Leaf.{Leaf}
-use Rattle.questions.specs.steps.Meant.{IsScopeAt}
+use Rattle.questions.specs.steps.Takers.{IsScopeAt}
 use Rattle.questions.specs.steps.Taken.{IsUnfinishedUnder}
 
 -- some packet that can be at the hook is in the box

@@ -1,6 +1,6 @@
 -- Which of the answers that bring a packet to a rule are necessary.
 use Rattle.std.specs.Prelude.{◌≡◌, ◌≢◌, ◌⊎◌, ℕ, ◌≤◌, List, length, All, Contains, Ok}
-use Rattle.fields.specs.packet.Packet.{PacketView as Packet, packet_of}
+use Rattle.fields.specs.Packet.{PacketView as Packet, packet_of}
 use Rattle.table.specs.declared.walk.trail.Step.{Step}
 use Rattle.table.specs.walk.Walk.{walk}
 use Rattle.questions.specs.Foreign.{Agrees, AreConsistent, Assignment, IsUnanswered}

@@ -3,11 +3,11 @@ use Rattle.std.specs.Prelude.{◌≡◌, ℕ, ◌≤◌, true, List, option_map,
 use Rattle.fields.specs.declared.numbers.field.Field.{Field}
 use Rattle.fields.specs.numbers.Field.{top}
 use Rattle.fields.specs.numbers.Spans.{has}
-use Rattle.fields.specs.packet.Packet.{PacketView as Packet, point}
+use Rattle.fields.specs.Packet.{PacketView as Packet, point}
 use Rattle.table.specs.chains.Table.{Table}
 use Rattle.questions.specs.Ends.{EndsBy, IsRule}
 use Rattle.questions.specs.Leaves.{entry_of}
-use Rattle.questions.specs.boxes.Area.{IsAtHook, IsIn}
+use Rattle.questions.specs.boxes.Boxes.{IsAtHook, IsIn}
 use Rattle.questions.specs.declared.asked.reach.Given.{Given}
 use Rattle.questions.specs.declared.asked.reached.Reached.{Reached}
 

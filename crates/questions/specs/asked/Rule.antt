@@ -1,10 +1,10 @@
 -- What the answer to a question about one rule says: dead, live or unclear.
 use Rattle.std.specs.Prelude.{◌≡◌, ℕ, List, Contains, Ok}
 use Rattle.fields.specs.declared.packet.hook.Hook.{Hook}
-use Rattle.fields.specs.packet.Packet.{PacketView as Packet, packet_of}
+use Rattle.fields.specs.Packet.{PacketView as Packet, packet_of}
 use Rattle.table.specs.chains.Table.{Table}
 use Rattle.table.specs.walk.Walk.{Entry, walk}
-use Rattle.questions.specs.boxes.Area.{IsAtHook}
+use Rattle.questions.specs.boxes.Boxes.{IsAtHook}
 use Rattle.questions.specs.declared.asked.rule.Life.{Life}
 use Rattle.questions.specs.declared.asked.rule.Life.TheVariants.{Dead, Live, Unclear}
 

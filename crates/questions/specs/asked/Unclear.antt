@@ -1,7 +1,7 @@
 -- Where alone an answer may be unclear, given a budget of steps.
 use Rattle.std.specs.Prelude.{◌≡◌, ◌⊎◌, ℕ, ◌<◌, List, [], ◌∷◌, ◌++◌, length, Any, Contains}
 use Rattle.fields.specs.declared.packet.hook.Hook.{Hook}
-use Rattle.fields.specs.packet.Packet.{PacketView as Packet}
+use Rattle.fields.specs.Packet.{PacketView as Packet}
 use Rattle.table.specs.chains.Table.{Table}
 use Rattle.table.specs.declared.walk.trail.Step.{Step}
 use Rattle.table.specs.walk.Walk.{walk}
@@ -10,16 +10,15 @@ use Rattle.questions.specs.Leaves.{entry_of}
 use Rattle.questions.specs.Scopes.{Whole, all_of, left_under}
 use Rattle.questions.specs.Written.{HasNoneWritten}
 use Rattle.questions.specs.asked.Rule.{IsDeadAt}
-use Rattle.questions.specs.boxes.Area.{HasNumbers, IsAtHook, IsIn, IsOnly}
+use Rattle.questions.specs.boxes.Boxes.{HasNumbers, IsAtHook, IsIn, IsOnly}
 use Rattle.questions.specs.declared.foreign.answers.Answer.{Answer}
 use Rattle.questions.specs.declared.asked.rule.Life.{Life}
 use Rattle.questions.specs.declared.asked.rule.Life.TheVariants as life
 use Rattle.questions.specs.declared.seeking.way.Way.{Way}
 use Rattle.questions.specs.declared.walking.scope.Scope.{Scope}
 use Rattle.questions.specs.steps.Lengths.{IsBounded}
-use Rattle.questions.specs.steps.Seeking.{IsHere}
+use Rattle.questions.specs.steps.Seeking.{IsHere, AreTries, IsFirst}
 use Rattle.questions.specs.steps.Taken.{IsUnfinishedUnder}
-use Rattle.questions.specs.steps.Tries.{AreTries, IsFirst}
 
 -- the walk of a box that has just this packet isn't finished within the budget, under some answers
 abbrev pub IsUnended : Whole → Hook → ℕ → List Answer → Packet → Type 0

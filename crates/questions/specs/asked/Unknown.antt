@@ -9,16 +9,15 @@ use Rattle.questions.specs.Ends.{rule_at}
 use Rattle.questions.specs.Foreign.{Assignment}
 use Rattle.questions.specs.Scopes.{answered, known_by, table_of, whole_of}
 use Rattle.questions.specs.asked.Reason.{IsLed}
-use Rattle.questions.specs.boxes.Area.{IsBoth}
+use Rattle.questions.specs.boxes.Boxes.{IsBoth}
 use Rattle.questions.specs.boxes.Calls.{IsCall}
 use Rattle.questions.specs.declared.asked.reach.Given.{Given}
 use Rattle.questions.specs.declared.foreign.subject.Subject.{Subject}
 use Rattle.questions.specs.declared.walking.scope.Scope.{Scope}
 use Rattle.questions.specs.declared.walking.task.Leaf.{Leaf}
-use Rattle.questions.specs.steps.Meant.{IsScopeBy}
+use Rattle.questions.specs.steps.Takers.{IsScopeBy, IsBoxBy}
 use Rattle.questions.specs.steps.Exact.{AreExactWalks, AreExactWalksUnder, IsMet}
 use Rattle.questions.specs.steps.Taken.{IsUnfinished, IsUnfinishedUnder}
-use Rattle.questions.specs.steps.Takers.{IsBoxBy}
 
 -- the packets can't all be walked within the budget
 abbrev pub CantBeWalked : Table → Given → ℕ → Type 0

@@ -1,10 +1,10 @@
 -- What the answer to a comparison of two tables says: the same, different or unclear.
 use Rattle.std.specs.Prelude.{◌≡◌, ◌≢◌, ℕ, List, Ok}
 use Rattle.fields.specs.declared.packet.hook.Hook.{Hook}
-use Rattle.fields.specs.packet.Packet.{PacketView as Packet, packet_of}
+use Rattle.fields.specs.Packet.{PacketView as Packet, packet_of}
 use Rattle.table.specs.chains.Table.{Table}
 use Rattle.table.specs.walk.Walk.{walk}
-use Rattle.questions.specs.boxes.Area.{IsAtHook}
+use Rattle.questions.specs.boxes.Boxes.{IsAtHook}
 use Rattle.questions.specs.declared.asked.likeness.Likeness.{Likeness}
 use Rattle.questions.specs.declared.asked.likeness.Likeness.TheVariants.{Same, Differ, Unclear}
 

@@ -1,6 +1,6 @@
 -- The walks of one packet, for each assignment of conditions that this program doesn't know.
 use Rattle.std.specs.Prelude.{◌≡◌, List, All, Any}
-use Rattle.fields.specs.packet.Packet.{PacketView as Packet}
+use Rattle.fields.specs.Packet.{PacketView as Packet}
 use Rattle.table.specs.chains.Table.{Table}
 use Rattle.table.specs.walk.Walk.{walk}
 use Rattle.questions.specs.Foreign.{Agrees, Assignment}

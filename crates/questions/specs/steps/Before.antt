@@ -1,7 +1,7 @@
 -- Where a packet may be that hasn't come to a rule: in each chain at the first so many rules, and back from some chains. If all that it may meet there leaves it
 -- there, it comes to the rule.
 use Rattle.std.specs.Prelude.{◌≡◌, ◌⊎◌, ℕ, ◌+◌, ◌<◌, true, length, List, Option, Some, None, Contains, IsTrue, IsFalse, slice_index}
-use Rattle.fields.specs.packet.Packet.{PacketView as Packet}
+use Rattle.fields.specs.Packet.{PacketView as Packet}
 use Rattle.rules.specs.declared.rule.target.Target.{Target}
 use Rattle.rules.specs.declared.rule.target.Target.TheVariants as target
 use Rattle.rules.specs.rule.Actions.{target_of}
@@ -18,7 +18,7 @@ use Rattle.questions.specs.Scopes.{table_of}
 use Rattle.questions.specs.declared.foreign.answers.Answer.{Answer}
 use Rattle.questions.specs.declared.foreign.subject.Subject.{Subject}
 use Rattle.questions.specs.steps.Lengths.{number_of}
-use Rattle.questions.specs.steps.Meant.{needs_of}
+use Rattle.questions.specs.steps.Takers.{needs_of}
 
 -- A chain has two numbers. One says at how many of its rules the packet may be, from the first on; it is more than all where the packet may be at the chain's
 -- end. The other isn't 0 where the packet may be back from the chain.

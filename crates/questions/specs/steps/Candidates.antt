@@ -1,12 +1,23 @@
--- The rules of a table that may match packets of a box.
-use Rattle.std.specs.Prelude.{ℕ, ◌+◌, ◌<◌, ◌≤◌, List, [], length, map, slice_index, slice_index_or}
+-- The rules of a table in the order of a listing, and those that may match packets of a box.
+use Rattle.std.specs.Prelude.{◌≡◌, ◌⊎◌, ℕ, List, Contains, ◌+◌, ◌<◌, ◌≤◌, [], length, map, slice_index, slice_index_or}
+use Rattle.table.specs.declared.walk.trail.Step.{Step}
 use Rattle.fields.specs.numbers.Spans.{SpanSet}
 use Rattle.rules.specs.rule.Rules.{Rule, empty_rule}
 use Rattle.table.specs.chains.Table.{Table, chain_at}
-use Rattle.classify.specs.classifier.Classifier.{IsPoint}
-use Rattle.questions.specs.boxes.Area.{Has}
+use Rattle.classify.specs.Classifier.{IsPoint}
+use Rattle.questions.specs.boxes.Boxes.{Has}
 use Rattle.questions.specs.boxes.Cut.{IsApart}
 use Rattle.questions.specs.declared.boxes.candidates.Candidates.{Candidates}
+
+-- ---- Rules that are collected chain by chain, in the order of a listing.
+
+-- to some rules just those of the chain at a place are added of which this holds
+pub record AddsRules (Holds : Step → Type 0) (place : ℕ) (old new : List Step) : Type 0 where
+  pub kept : (by : Step) → Contains old by → Contains new by
+  pub added : (by : Step) → by.chain ≡ place → Holds by → Contains new by
+  pub only : (by : Step) → Contains new by → Contains old by ⊎ ((by.chain ≡ place) × Holds by)
+
+-- ---- The rules of a table that may match packets of a box.
 
 -- of the rules of a chain none matches a packet of the box from the rule at a place up to the one that the list names for it; the list begins with
 -- the last rule

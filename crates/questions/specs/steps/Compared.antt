@@ -1,7 +1,7 @@
 -- What is said of the packets that a rule matches, and of those of a leaf, where two tables are compared.
 use Rattle.std.specs.Prelude.{◌≡◌, ◌≢◌, ◌⊎◌, ℕ, List, All, Any}
 use Rattle.fields.specs.declared.packet.hook.Hook.{Hook}
-use Rattle.fields.specs.packet.Packet.{PacketView as Packet}
+use Rattle.fields.specs.Packet.{PacketView as Packet}
 use Rattle.table.specs.chains.Table.{Table}
 use Rattle.table.specs.declared.verdict.Verdict.{Verdict}
 use Rattle.table.specs.declared.verdict.Verdict.TheVariants.{TooLong}
@@ -14,12 +14,11 @@ use Rattle.questions.specs.Written.{HasNoneWritten, IsWritten}
 use Rattle.questions.specs.asked.Differing.{HasPackets, IsNotDead, MayDifferOn}
 use Rattle.questions.specs.asked.Rule.{IsDeadAt}
 use Rattle.questions.specs.asked.Verdicts.{IsAlike}
-use Rattle.questions.specs.boxes.Area.{IsAtHook, IsBoth}
+use Rattle.questions.specs.boxes.Boxes.{IsAtHook, IsBoth}
 use Rattle.questions.specs.declared.walking.scope.Scope.{Scope}
 use Rattle.questions.specs.declared.walking.task.Leaf.{Leaf}
-use Rattle.questions.specs.steps.Meant.{IsScopeAt}
+use Rattle.questions.specs.steps.Takers.{IsScopeAt, IsMatchedAt}
 use Rattle.questions.specs.steps.Taken.{IsUnfinishedUnder}
-use Rattle.questions.specs.steps.Takers.{IsMatchedAt}
 
 -- no packet at the hook that the rule matches has a walk that is too long
 abbrev pub AreShort : Table → Step → Hook → Type 0

@@ -1,7 +1,7 @@
 -- Which rules and policies decide the packets that a rule matches where all holds that it needs.
 use Rattle.std.specs.Prelude.{◌≡◌, true, Bool, List, Option, option_map, All, AllPairs, Any, Contains, MatchOption, IsTrue}
 use Rattle.fields.specs.declared.packet.hook.Hook.{Hook}
-use Rattle.fields.specs.packet.Packet.{PacketView as Packet}
+use Rattle.fields.specs.Packet.{PacketView as Packet}
 use Rattle.table.specs.chains.Table.{Table}
 use Rattle.table.specs.declared.walk.trail.Step.{Step}
 use Rattle.table.specs.walk.Walk.{walk}
@@ -9,9 +9,8 @@ use Rattle.questions.specs.Ends.{IsRule, decider_of, step_of}
 use Rattle.questions.specs.Foreign.{Assignment}
 use Rattle.questions.specs.Leaves.{entry_of}
 use Rattle.questions.specs.Scopes.{answered, is_met, known_by, table_of}
-use Rattle.questions.specs.asked.Reason.{IsDecidedAmong, IsDecidedBy, IsLed, IsLetIn}
-use Rattle.questions.specs.asked.Why.{IsMeantUnder}
-use Rattle.questions.specs.boxes.Area.{IsAtHook}
+use Rattle.questions.specs.asked.Reason.{IsDecidedAmong, IsDecidedBy, IsLed, IsLetIn, IsMeantUnder}
+use Rattle.questions.specs.boxes.Boxes.{IsAtHook}
 use Rattle.questions.specs.declared.asked.takers.Takers.{Takers}
 use Rattle.questions.specs.declared.foreign.subject.Subject.{Subject}
 use Rattle.questions.specs.declared.walking.task.Leaf.{Leaf}

@@ -2,14 +2,14 @@
 use Rattle.std.specs.Prelude.{◌≡◌, List, ℕ, Option, None, Some, All, Any}
 use Rattle.fields.specs.declared.packet.hook.Hook.{Hook}
 use Rattle.fields.specs.numbers.Spans.{SpanSet}
-use Rattle.fields.specs.packet.Packet.{PacketView as Packet, IsPacket}
+use Rattle.fields.specs.Packet.{PacketView as Packet, IsPacket}
 use Rattle.table.specs.chains.Table.{Table}
 use Rattle.table.specs.walk.Walk.{walk}
-use Rattle.classify.specs.classifier.Classifier.{IsPoint}
+use Rattle.classify.specs.Classifier.{IsPoint}
 use Rattle.questions.specs.Leaves.{walked_of}
 use Rattle.questions.specs.Scopes.{IsOf, IsSurely, Known, ShowsUnder, scope_of}
 use Rattle.questions.specs.asked.Reach.{IsMeant}
-use Rattle.questions.specs.boxes.Area.{Has, HasNumbers, HasOwnInterfaces, IsAtHook, IsBoth, IsIn}
+use Rattle.questions.specs.boxes.Boxes.{Has, HasNumbers, HasOwnInterfaces, IsAtHook, IsBoth, IsIn}
 use Rattle.questions.specs.declared.asked.reach.Given.{Given}
 use Rattle.questions.specs.declared.walking.scope.Scope.{Scope}
 use Rattle.questions.specs.declared.walking.task.Leaf.{Leaf}

@@ -1,13 +1,18 @@
--- The chains from which jumps and gotos lead to a given chain, as marks.
+-- The chains from which jumps and gotos lead to one, and the rules by which packets come into some chains.
 use Rattle.std.specs.Prelude.{◌≡◌, ℕ, zero, suc, ◌<◌, Bool, true, false, List, [], ◌∷◌, Option, Some, None, length, slice_index_or, Contains}
-use Rattle.classify.specs.classifier.Classifier.{IsPoint}
+use Rattle.classify.specs.Classifier.{IsPoint}
 use Rattle.rules.specs.rule.Allows.{allows_each}
 use Rattle.rules.specs.rule.Rules.{Rule}
 use Rattle.table.specs.chains.Sound.{Leads}
 use Rattle.table.specs.chains.Table.{Chain, Table, chain_at, chain_named_by, rules_of}
-use Rattle.questions.specs.Ends.{rule_at}
+use Rattle.fields.specs.declared.packet.hook.Hook.{Hook}
+use Rattle.fields.specs.Hook.{name as hook_name}
+use Rattle.table.specs.declared.walk.trail.Step.{Step}
+use Rattle.questions.specs.Ends.{rule_at, IsRule}
 use Rattle.questions.specs.Leaves.{name_at}
 use Rattle.questions.specs.declared.seeking.calls.Call.{Call}
+
+-- ---- The chains from which jumps and gotos lead to a given chain, as marks.
 
 -- the chain at a place is marked
 abbrev pub IsMarked : List Bool → ℕ → Type 0
@@ -76,3 +81,21 @@ pub record Spreads (t : Table) (own : Option Rule) (old new : List Bool) : Type 
   pub long : length new ≡ length old
   pub kept : (k : ℕ) → IsMarked old k → IsMarked new k
   pub each : (name : List ℕ) → AllLead t own name old → AllLead t own name new
+
+-- ---- The rules by which packets come into some chains.
+
+-- the names of the marked chains
+abbrev pub marked_names : List Chain → List Bool → List (List ℕ)
+marked_names [] marks = []
+marked_names (chain ∷ chains) [] = []
+marked_names (chain ∷ chains) (true ∷ marks) = chain.name ∷ marked_names chains marks
+marked_names (chain ∷ chains) (false ∷ marks) = marked_names chains marks
+
+-- a rule names a marked chain
+pub record IsWay (t : Table) (marks : List Bool) (by : Step) : Type 0 where
+  pub rule : IsRule t by
+  pub names : NamesMarked t.chains marks (rule_at t by)
+
+-- rules that allow some numbers that the rule allows too lead from a built-in chain to the rule's chain
+abbrev pub IsOpen : Table → Step → Type 0
+IsOpen t step = (hook : Hook) × (n : ℕ) × PathBy t (Some (rule_at t step)) n (hook_name hook) (chain_at t step.chain).name

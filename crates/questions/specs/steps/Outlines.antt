@@ -3,8 +3,8 @@ use Rattle.std.specs.Prelude.{ℕ, ◌≤◌, List}
 use Rattle.fields.specs.declared.numbers.field.Field.TheVariants as field
 use Rattle.fields.specs.numbers.Field.{number_on}
 use Rattle.fields.specs.numbers.Spans.{SpanSet}
-use Rattle.classify.specs.classifier.Classifier.{IsPoint}
-use Rattle.questions.specs.boxes.Area.{Has}
+use Rattle.classify.specs.Classifier.{IsPoint}
+use Rattle.questions.specs.boxes.Boxes.{Has}
 use Rattle.questions.specs.declared.boxes.ends.Ends.{Ends}
 use Rattle.questions.specs.declared.boxes.ends.Outline.{Outline}
 

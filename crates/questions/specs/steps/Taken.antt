@@ -1,24 +1,175 @@
--- The steps that the walk of a box takes.
-use Rattle.std.specs.Prelude.{◌≡◌, ◌⊎◌, ℕ, zero, suc, ◌+◌, ◌≤◌, ◌<◌, List, [], ◌∷◌, ◌++◌, length}
+-- The steps that the walk of a box takes: how each parts the box, and how the parts get on.
+use Rattle.std.specs.Prelude.{◌≡◌, ◌⊎◌, ℕ, ◌+◌, ◌≤◌, List, [], ◌∷◌, ◌++◌, length, map, reverse, All, AllPairs, ◌≢◌, Option, None, Some, Any, Contains, position, zero, suc, ◌<◌}
+use Rattle.fields.specs.numbers.Spans.{SpanSet}
+use Rattle.classify.specs.Classifier.{IsPoint}
+use Rattle.rules.specs.declared.rule.target.Target.{Target}
+use Rattle.table.specs.chains.Table.{Chain, Table, is_named}
+use Rattle.table.specs.declared.walk.trail.Step.{Step}
 use Rattle.fields.specs.declared.packet.hook.Hook.{Hook}
 use Rattle.fields.specs.numbers.Field.{all_fields}
-use Rattle.fields.specs.numbers.Spans.{SpanSet}
-use Rattle.fields.specs.packet.Packet.{PacketView as Packet}
-use Rattle.table.specs.chains.Table.{Table}
+use Rattle.fields.specs.Packet.{PacketView as Packet}
 use Rattle.table.specs.declared.verdict.Verdict.{Verdict}
 use Rattle.table.specs.steps.Kept.{hook_index}
 use Rattle.table.specs.walk.Walk.{end_verdict}
-use Rattle.questions.specs.Foreign.{Assignment}
-use Rattle.questions.specs.Scopes.{IsOf, Known, Whole, all_of, known_under, left_under, unasked}
-use Rattle.questions.specs.boxes.Area.{HasNumbers, IsAtHook}
-use Rattle.questions.specs.steps.Onward.{AddsTasks, GetsOn}
-use Rattle.questions.specs.steps.Parted.{AddsParts}
-use Rattle.questions.specs.steps.Waiting.{Moves, StandsAtOne, WaitsIn, stage_of}
+use Rattle.rules.specs.declared.rule.target.Target.TheVariants as target
+use Rattle.questions.specs.Foreign.{Agrees, Assignment, IsUnanswered, needs_at}
+use Rattle.questions.specs.Scopes.{scope_of, under, Whole, IsOf, Known, all_of, known_under, left_under, unasked}
+use Rattle.questions.specs.boxes.Boxes.{Has, HasNumbers, IsAtHook}
+use Rattle.questions.specs.boxes.Cut.{ShareNone, IsPortPart}
+use Rattle.questions.specs.declared.foreign.answers.Answer.{Answer}
 use Rattle.questions.specs.declared.walking.front.Front.{Front}
-use Rattle.questions.specs.declared.walking.task.Leaf.{Leaf}
 use Rattle.questions.specs.declared.walking.scope.Scope.{Scope}
-use Rattle.questions.specs.declared.walking.task.Pending.{Pending}
+use Rattle.questions.specs.declared.walking.task.Leaf.{Leaf}
 use Rattle.questions.specs.declared.walking.task.Task.{Task}
+use Rattle.questions.specs.declared.foreign.need.Need.{Need}
+use Rattle.questions.specs.declared.walking.task.Pending.{Pending}
+use Rattle.questions.specs.steps.Waiting.{rule_ahead, Moves, StandsAtOne, WaitsIn, stage_of}
+
+-- ---- How a step parts the box of a task among tasks and leaves.
+
+-- two scopes are apart: their boxes share no numbers, or no assignment gives the answers of both
+abbrev pub AreApart : Scope → Scope → Type 0
+AreApart one other = ShareNone one.area other.area ⊎ ((a : Assignment) → Agrees a one.answers → Agrees a other.answers → ⊥)
+
+-- a scope is a part of another one: it has numbers of that one's box alone, and some if that has; and it has that one's answers, and perhaps more
+pub record IsWithin (own part : Scope) : Type 0 where
+  pub inside : (numbers : List ℕ) → IsPoint numbers → Has part.area numbers → Has own.area numbers
+  pub some : HasNumbers own.area → HasNumbers part.area
+  pub answers : (more : List Answer) × (part.answers ≡ own.answers ++ more)
+
+-- scopes are parts of another one, and any two of them are apart
+pub record AreParts (own : Scope) (parts : List Scope) : Type 0 where
+  pub each : All (IsWithin own) parts
+  pub apart : AllPairs AreApart parts
+
+-- the scopes of tasks
+abbrev pub scopes_of : List Task → List Scope
+scopes_of tasks = map (λ (task : Task). task.scope) tasks
+
+-- tasks and leaves are put on those that were there, so many at most, and their scopes are parts of this one
+pub record AddsParts (most : ℕ) (own : Scope) (old new : Front) : Type 0 where
+  pub tasks : List Task
+  pub leaves : List Leaf
+  pub more : new.tasks.items ≡ old.tasks.items ++ tasks
+  pub ends : new.leaves.items ≡ old.leaves.items ++ leaves
+  pub few : length tasks + length leaves ≤ most
+  pub parts : AreParts own (scopes_of tasks ++ map scope_of leaves)
+
+-- one task of this scope is put on those that were there
+pub record AddsOne (own : Scope) (old new : Front) : Type 0 where
+  pub task : Task
+  pub scope : task.scope ≡ own
+  pub more : new.tasks.items ≡ old.tasks.items ++ task ∷ []
+  pub same : new.leaves.items ≡ old.leaves.items
+
+-- a task for each of some boxes, the last first, under some answers, is put on those that were there
+pub record AddsBoxes (boxes : List (List SpanSet)) (answers : List Answer) (old new : Front) : Type 0 where
+  pub tasks : List Task
+  pub more : new.tasks.items ≡ old.tasks.items ++ tasks
+  pub same : new.leaves.items ≡ old.leaves.items
+  pub scopes : scopes_of tasks ≡ map (λ (box : List SpanSet). under box answers) (reverse boxes)
+
+-- ---- How boxes get on: what a step makes of a task.
+
+-- tasks are put on those that were left, and this holds of each
+abbrev pub AddsTasks : (Task → Type 0) → Front → Front → Type 0
+AddsTasks Holds old new = (added : List Task) × (new.tasks.items ≡ old.tasks.items ++ added) × All Holds added
+
+-- the chains that wait and the trail are these
+pub record IsPlaced (waiting : List Pending) (steps : List Step) (next : Task) : Type 0 where
+  pub rests : next.rests.items ≡ waiting
+  pub trail : next.trail.items ≡ steps
+
+-- a chain of this name waits above these at its first rule; where none has the name, only these wait
+abbrev pub Enters : List Chain → List ℕ → List Pending → List Pending → Type 0
+Enters chains name waiting rests =
+    (rests ≡ waiting) ⊎ ((to : ℕ) × (position (is_named name) chains ≡ Some to) × (rests ≡ waiting ++ record { chain = to; passed = 0 } ∷ []))
+
+-- which chains wait once a packet has followed a target, if its own waits behind the rule and these are below; none where the target gives a verdict
+abbrev pub WaitAfter : List Chain → Option Target → List Pending → Pending → List Pending → Type 0
+WaitAfter chains None below behind rests = rests ≡ below ++ behind ∷ []
+WaitAfter chains (Some target.Log) below behind rests = rests ≡ below ++ behind ∷ []
+WaitAfter chains (Some target.Accept) below behind rests = ⊥
+WaitAfter chains (Some target.Drop) below behind rests = ⊥
+WaitAfter chains (Some (target.Reject kind)) below behind rests = ⊥
+WaitAfter chains (Some target.Return) below behind rests = rests ≡ below
+WaitAfter chains (Some (target.Jump name)) below behind rests = Enters chains name (below ++ behind ∷ []) rests
+WaitAfter chains (Some (target.Goto name)) below behind rests = Enters chains name below rests
+
+-- a task came into a chain of this name, with these below and this trail
+pub record IsEntered (chains : List Chain) (name : List ℕ) (waiting : List Pending) (steps : List Step) (next : Task) : Type 0 where
+  pub rests : Enters chains name waiting next.rests.items
+  pub trail : next.trail.items ≡ steps
+
+-- a task followed a target, with these chains below, its own behind the rule, and this trail
+pub record IsTurned (chains : List Chain) (to : Option Target) (below : List Pending) (behind : Pending) (steps : List Step) (next : Task) : Type 0 where
+  pub rests : WaitAfter chains to below behind next.rests.items
+  pub trail : next.trail.items ≡ steps
+
+-- so are they, and the scope is this
+pub record IsPut (own : Scope) (waiting : List Pending) (steps : List Step) (next : Task) : Type 0 where
+  pub scope : next.scope ≡ own
+  pub there : IsPlaced waiting steps next
+
+-- so are they, with one of some boxes and these answers
+pub record IsBesides (boxes : List (List SpanSet)) (given : List Answer) (waiting : List Pending) (steps : List Step) (next : Task) : Type 0 where
+  pub area : Contains boxes next.scope.area
+  pub answers : next.scope.answers ≡ given
+  pub there : IsPlaced waiting steps next
+
+-- the next rule of a chain needs the condition, or that it doesn't hold
+abbrev pub IsNeededNext : List (List (List Need)) → Pending → ℕ → Type 0
+IsNeededNext needs at condition = Any (λ (need : Need). need.condition ≡ condition) (needs_at needs at.chain at.passed)
+
+-- so are they, and one more condition is answered, which had no answer and which the next rule of the newest chain needs
+pub record IsAnswered (needs : List (List (List Need))) (given : List Answer) (waiting : List Pending) (steps : List Step) (next : Task) : Type 0 where
+  pub below : List Pending
+  pub at : Pending
+  pub newest : waiting ≡ below ++ at ∷ []
+  pub answer : Answer
+  pub unanswered : IsUnanswered given answer.condition
+  pub needed : IsNeededNext needs at answer.condition
+  pub answers : next.scope.answers ≡ given ++ answer ∷ []
+  pub there : IsPlaced waiting steps next
+
+-- a task got on, from these chains that wait and this trail, to the next rule of the newest chain
+pub record IsPast (waiting : List Pending) (steps : List Step) (next : Task) : Type 0 where
+  pub below : List Pending
+  pub at : Pending
+  pub newest : waiting ≡ below ++ at ∷ []
+  pub there : IsPlaced (below ++ record { chain = at.chain; passed = at.passed + 1 } ∷ []) steps next
+
+-- or it left the newest chain
+pub record IsBack (waiting : List Pending) (steps : List Step) (next : Task) : Type 0 where
+  pub at : Pending
+  pub newest : waiting ≡ next.rests.items ++ at ∷ []
+  pub trail : next.trail.items ≡ steps
+
+-- or the next rule of that chain matched, and other chains wait than before
+pub record IsMatched (waiting : List Pending) (steps : List Step) (next : Task) : Type 0 where
+  pub below : List Pending
+  pub at : Pending
+  pub newest : waiting ≡ below ++ at ∷ []
+  pub on : next.trail.items ≡ steps ++ record { chain = at.chain; number = at.passed + 1 } ∷ []
+  pub moved : next.rests.items ≢ waiting
+
+-- or it stayed, with those of its packets that are on one side of ports which that rule lists, for the source and the destination
+pub record IsPartOf (t : Table) (own : Scope) (waiting : List Pending) (steps : List Step) (next : Task) : Type 0 where
+  pub below : List Pending
+  pub at : Pending
+  pub newest : waiting ≡ below ++ at ∷ []
+  pub part : IsPortPart (rule_ahead t at) own.area next.scope.area
+  pub answers : next.scope.answers ≡ own.answers
+  pub there : IsPlaced waiting steps next
+
+-- A task got on from a scope with these chains that wait and this trail. The next rule of the newest chain matched, or is behind it; or that chain was
+-- left; or one more condition is answered that the rule needs; or ports that the rule lists part its packets.
+abbrev pub GetsOn : Whole → Scope → List Pending → List Step → Task → Type 0
+GetsOn t scope rests trail next =
+    IsMatched rests trail next
+    ⊎ (IsPast rests trail next ⊎ (IsBack rests trail next ⊎ (IsAnswered t.needs scope.answers rests trail next ⊎ IsPartOf t.table scope rests trail next)))
+
+-- ---- The steps that the walk of a box takes.
 
 -- the scope stands before the first rule of the hook's chain, and there is nothing else
 pub record IsFirst (hook : Hook) (scope : Scope) (front : Front) : Type 0 where

@@ -1,15 +1,21 @@
--- The packets that a rule matches, and which rules and policies decide some leaves.
-use Rattle.std.specs.Prelude.{◌≡◌, ◌⊎◌, true, Option, None, List, All, AllPairs, Any, Contains, IfSome, MatchOption}
+-- The packets that a rule matches, or would match with its needs, and which rules and policies decide some leaves.
+use Rattle.std.specs.Prelude.{◌≡◌, ◌⊎◌, true, Option, None, List, All, AllPairs, Any, Contains, IfSome, MatchOption, ◌-◌, [], IsFalse, IsTrue}
 use Rattle.fields.specs.declared.packet.hook.Hook.{Hook}
-use Rattle.fields.specs.packet.Packet.{PacketView as Packet, IsPacket}
+use Rattle.fields.specs.Packet.{PacketView as Packet, IsPacket}
 use Rattle.rules.specs.rule.Allows.{allows_each, matches}
 use Rattle.table.specs.chains.Table.{Table}
 use Rattle.table.specs.declared.walk.trail.Step.{Step}
 use Rattle.questions.specs.Ends.{rule_at, step_of}
-use Rattle.questions.specs.boxes.Area.{HasOwnInterfaces, IsAtHook, IsIn}
+use Rattle.questions.specs.boxes.Boxes.{HasOwnInterfaces, IsAtHook, IsIn}
 use Rattle.questions.specs.declared.asked.reach.Given.{Given}
 use Rattle.questions.specs.declared.asked.takers.Takers.{Takers}
 use Rattle.questions.specs.declared.walking.task.Leaf.{Leaf}
+use Rattle.questions.specs.Foreign.{Agrees, Assignment, all_hold, needs_at}
+use Rattle.questions.specs.declared.foreign.need.Need.{Need}
+use Rattle.questions.specs.declared.walking.scope.Scope.{Scope}
+use Rattle.questions.specs.steps.Answered.{IsMeeting}
+
+-- ---- The packets that a rule matches, and which rules and policies decide some leaves.
 
 -- the packet can be at the hook and is there, and the rule matches it
 pub record IsMatchedAt (t : Table) (step : Step) (hook : Hook) (p : Packet) : Type 0 where
@@ -61,3 +67,27 @@ pub record TakesAll (own : Hook) (leaves : List Leaf) (old new : Takers) : Type 
   pub grows : Grows old new
   pub added : All (λ leaf. IsAmong new own (step_of leaf)) leaves
   pub only : (hook : Hook) (by : Option Step) → IsAmong new hook by → IsAmong old hook by ⊎ Any (λ leaf. IsByThis own leaf hook by) leaves
+
+-- ---- The packets that a rule with needs would match.
+
+-- what the rule of a step needs
+abbrev pub needs_of : List (List (List Need)) → Step → List Need
+needs_of needs step = needs_at needs step.chain (step.number - 1)
+
+-- the scope has the packets at the hook that the box of the rule has, and its answers are given just where all holds that the rule needs
+abbrev pub IsScopeAt : Table → List (List (List Need)) → Step → Hook → Scope → Type 0
+IsScopeAt t needs step hook scope =
+    (given : Given) × IsBoxAt t step hook given × (given.area ≡ scope.area) × IsMeeting (needs_of needs step) [] scope.answers
+
+-- the same of packets that another rule lets in, if one is given
+abbrev pub IsScopeBy : Table → List (List (List Need)) → Step → Option Step → Hook → Scope → Type 0
+IsScopeBy t needs step by hook scope =
+    (given : Given) × IsBoxBy t step by hook given × (given.area ≡ scope.area) × IsMeeting (needs_of needs step) [] scope.answers
+
+-- the rule is on the trail of the leaf, and all holds that it needs where the leaf's answers are right
+abbrev pub IsSurelyOn : List Need → Step → Leaf → Type 0
+IsSurelyOn needs step leaf = Contains leaf.trail.items step × ((a : Assignment) → Agrees a leaf.answers → IsTrue (all_hold a needs))
+
+-- some assignment gives the leaf's answers, and either the rule isn't on its trail or something doesn't hold that the rule needs
+abbrev pub IsMissed : List Need → Step → Leaf → Type 0
+IsMissed needs step leaf = (a : Assignment) × Agrees a leaf.answers × (Contains leaf.trail.items step → IsFalse (all_hold a needs))

@@ -5,9 +5,9 @@ use Rattle.fields.specs.declared.numbers.field.Field.{Field}
 use Rattle.fields.specs.declared.numbers.field.Field.TheVariants as field
 use Rattle.fields.specs.numbers.Field.{number_on, top}
 use Rattle.fields.specs.numbers.Spans.{SpanSet, has}
-use Rattle.fields.specs.packet.Packet.{PacketView as Packet, point}
-use Rattle.classify.specs.classifier.Classifier.{IsPoint}
-use Rattle.questions.specs.boxes.Area.{Has}
+use Rattle.fields.specs.Packet.{PacketView as Packet, point}
+use Rattle.classify.specs.Classifier.{IsPoint}
+use Rattle.questions.specs.boxes.Boxes.{Has}
 use Rattle.questions.specs.declared.boxes.transport.Transport.{Transport}
 use Rattle.questions.specs.declared.boxes.transport.Transport.TheVariants.{Tcp, Ports, Icmp, Other, Missing}
 

@@ -2,22 +2,24 @@
 use Rattle.std.specs.Prelude.{◌≡◌, ◌⊎◌, ℕ, ◌+◌, ◌-◌, ◌<◌, List, [], ◌∷◌, ◌++◌, length, map, reverse, slice_get, slice_index_or, All, Any, IfSome, IsTrue}
 use Rattle.fields.specs.declared.packet.hook.Hook.{Hook}
 use Rattle.fields.specs.numbers.Spans.{SpanSet}
-use Rattle.fields.specs.packet.Hook.{name as hook_name}
-use Rattle.fields.specs.packet.Packet.{PacketView as Packet}
+use Rattle.fields.specs.Hook.{name as hook_name}
+use Rattle.fields.specs.Packet.{PacketView as Packet}
 use Rattle.rules.specs.rule.Rules.{Rule, empty_rule}
 use Rattle.table.specs.chains.Table.{Chain, Table, chain_at, names_of}
 use Rattle.table.specs.declared.verdict.Verdict.{Verdict}
 use Rattle.table.specs.declared.walk.trail.Step.{Step}
 use Rattle.table.specs.walk.Cases.{Stage, Under, GoesTo}
 use Rattle.table.specs.walk.Walk.{Rest, Entry, end_verdict, whole}
-use Rattle.questions.specs.boxes.Area.{IsAtHook}
+use Rattle.questions.specs.boxes.Boxes.{IsAtHook}
 use Rattle.questions.specs.boxes.Cut.{IsAllowedIn, IsInSome}
-use Rattle.questions.specs.Foreign.{Agrees}
+use Rattle.questions.specs.Foreign.{Agrees, AreAsked}
 use Rattle.questions.specs.declared.foreign.answers.Answer.{Answer}
+use Rattle.questions.specs.declared.foreign.need.Need.{Need}
 use Rattle.questions.specs.Leaves.{name_at}
 use Rattle.questions.specs.Scopes.{EndsUnder, IsOf, IsSurely, Known, ShowsUnder, entries_by, is_met}
 use Rattle.questions.specs.declared.walking.task.Pending.{Pending}
 use Rattle.questions.specs.declared.walking.scope.Scope.{Scope}
+use Rattle.questions.specs.declared.walking.task.Leaf.{Leaf}
 use Rattle.questions.specs.declared.walking.task.Task.{Task}
 use Rattle.questions.specs.declared.walking.front.Front.{Front}
 
@@ -142,3 +144,14 @@ pub record Begins (t : Table) (known : Known) (hook : Hook) (scope : Scope) (fro
   pub fits : (p : Packet) → IsAtHook p → p.hook ≡ hook → IsFitting t known scope p front
   pub there : AllThere t.chains front
   pub decided : All (IsSurely known) front.leaves.items
+
+-- ---- Which conditions their answers are about.
+
+-- each answer of a task or a leaf was given, or is about a condition that some rule needs
+pub record AllAsked (needs : List (List (List Need))) (given : List Answer) (front : Front) : Type 0 where
+  pub tasks : All (λ (task : Task). AreAsked needs given task.scope.answers) front.tasks.items
+  pub leaves : All (λ (leaf : Leaf). AreAsked needs given leaf.answers) front.leaves.items
+
+-- what is done with a task of these answers keeps that
+abbrev pub KeepsAsked : List (List (List Need)) → List Answer → Front → Front → Type 0
+KeepsAsked needs answers old new = (given : List Answer) → AreAsked needs given answers → AllAsked needs given old → AllAsked needs given new

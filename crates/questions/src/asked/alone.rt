@@ -5,7 +5,7 @@ ghost use Rattle.questions.specs.Ends.{IsRule};
 ghost use Rattle.questions.specs.Scopes.{answered, table_of};
 ghost use Rattle.questions.specs.asked.Alike.{HoldsWith};
 ghost use Rattle.questions.specs.asked.Verdicts.{IsOtherAt};
-ghost use Rattle.questions.specs.boxes.Area.{IsAtHook};
+ghost use Rattle.questions.specs.boxes.Boxes.{IsAtHook};
 
 use crate::asked::likeness::{Likeness, likeness_on};
 use crate::asked::other::Shown;

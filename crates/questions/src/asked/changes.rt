@@ -3,7 +3,7 @@ ghost use Rattle.std.specs.Prelude.{◌≡◌, ◌+◌, ◌<◌, All, IfOk, OnOk
 ghost use Rattle.questions.specs.Foreign.{Assignment};
 ghost use Rattle.questions.specs.Scopes.{all_of, answered, whole_of};
 ghost use Rattle.questions.specs.asked.Changes.{AreChanges, AreChangesUnder, AreThese};
-ghost use Rattle.questions.specs.steps.Collected.{AddsRules};
+ghost use Rattle.questions.specs.steps.Candidates.{AddsRules};
 ghost use Rattle.questions.specs.steps.Shared.{HasPlace, IsMarkedRule, is_marked, unshared};
 
 use crate::asked::pairs::{Pair, Side, marks_of, pairs_of};

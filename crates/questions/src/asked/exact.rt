@@ -5,7 +5,7 @@ ghost use Rattle.table.specs.chains.Table.{Table};
 ghost use Rattle.questions.specs.Foreign.{Assignment};
 ghost use Rattle.questions.specs.Scopes.{Known, Whole, answered, known_by, under, whole_of};
 ghost use Rattle.questions.specs.asked.Differing.{HasPackets};
-ghost use Rattle.questions.specs.boxes.Area.{Has, HasNumbers};
+ghost use Rattle.questions.specs.boxes.Boxes.{Has, HasNumbers};
 ghost use Rattle.questions.specs.declared.foreign.answers.Answer.{Answer};
 ghost use Rattle.questions.specs.declared.walking.scope.Scope.{Scope as ScopeView};
 ghost use Rattle.questions.specs.steps.Compared.{AreWalked};

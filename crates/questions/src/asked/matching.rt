@@ -3,8 +3,7 @@ ghost use Rattle.std.specs.Prelude.{[], IfOk, MatchOption};
 ghost use Rattle.questions.specs.Ends.{IsRule};
 ghost use Rattle.questions.specs.Scopes.{table_of};
 ghost use Rattle.questions.specs.steps.Answered.{MeetsNever};
-ghost use Rattle.questions.specs.steps.Meant.{IsScopeAt, needs_of};
-ghost use Rattle.questions.specs.steps.Takers.{IsBoxAt};
+ghost use Rattle.questions.specs.steps.Takers.{IsScopeAt, needs_of, IsBoxAt};
 
 use crate::asked::reach::Given;
 use crate::boxes::area::Area;

@@ -5,8 +5,8 @@ ghost use Rattle.questions.specs.Ends.{IsRule};
 ghost use Rattle.questions.specs.Foreign.{Agrees, Assignment};
 ghost use Rattle.questions.specs.Leaves.{entry_of};
 ghost use Rattle.questions.specs.Scopes.{answered, table_of};
-ghost use Rattle.questions.specs.boxes.Area.{IsAtHook, IsIn};
-ghost use Rattle.questions.specs.steps.Meant.{IsMissed, IsSurelyOn, needs_of};
+ghost use Rattle.questions.specs.boxes.Boxes.{IsAtHook, IsIn};
+ghost use Rattle.questions.specs.steps.Takers.{IsMissed, IsSurelyOn, needs_of};
 
 use crate::asked::rule::is_on;
 use crate::asked::walks::box_of;

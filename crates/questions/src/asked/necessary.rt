@@ -3,8 +3,8 @@ ghost use Rattle.std.specs.Prelude.{◌≡◌, false, All, Any, IfOk, IsTrue};
 ghost use Rattle.questions.specs.Ends.{IsRule};
 ghost use Rattle.questions.specs.Scopes.{table_of};
 ghost use Rattle.questions.specs.asked.Necessary.{AreEnough, AreNecessary, MayNotSuffice};
-ghost use Rattle.questions.specs.boxes.Area.{IsAtHook, IsIn};
-ghost use Rattle.questions.specs.steps.Meant.{IsMissed, IsSurelyOn, needs_of};
+ghost use Rattle.questions.specs.boxes.Boxes.{IsAtHook, IsIn};
+ghost use Rattle.questions.specs.steps.Takers.{IsMissed, IsSurelyOn, needs_of};
 
 use crate::asked::missing::{is_off, is_surely_on};
 use crate::asked::walks::walks_of;

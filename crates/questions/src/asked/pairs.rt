@@ -4,7 +4,7 @@ ghost use Rattle.table.specs.chains.Table.{chain_at, has_chain};
 ghost use Rattle.questions.specs.Foreign.{Assignment};
 ghost use Rattle.questions.specs.Leaves.{name_at};
 ghost use Rattle.questions.specs.Scopes.{answered, table_of, whole_of};
-ghost use Rattle.questions.specs.asked.Aligned.{IsAligned, IsPairOf};
+ghost use Rattle.questions.specs.asked.Changes.{IsAligned, IsPairOf};
 ghost use Rattle.questions.specs.steps.Shared.{AreSameAt, AreThere, HaveNext, IsAhead, IsBeside, IsNext, IsPaired, HasPlace, marks_on, pair_named};
 
 use crate::foreign::need::are_same;

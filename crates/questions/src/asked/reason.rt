@@ -1,13 +1,12 @@
 //! Why a rule is dead.
 ghost use Rattle.std.specs.Prelude.{◌≡◌, ◌<◌, ◌≤◌, [], false, length, IfOk, IsTrue, MatchOption};
-ghost use Rattle.rules.specs.boxing.Boxed.{set_on};
+ghost use Rattle.rules.specs.Boxed.{set_on};
 ghost use Rattle.table.specs.chains.Table.{chain_at};
 ghost use Rattle.questions.specs.Ends.{IsRule, rule_at};
 ghost use Rattle.questions.specs.Scopes.{table_of};
-ghost use Rattle.questions.specs.asked.Reason.{Explains, IsPossible, IsReached};
+ghost use Rattle.questions.specs.asked.Reason.{Explains, IsPossible, IsReached, ExplainsUnder, IsReasonUnder, IsTakenUnder};
 ghost use Rattle.questions.specs.asked.Unknown.{IsUndecided, IsUndecidedUnder};
-ghost use Rattle.questions.specs.asked.Why.{ExplainsUnder, IsReasonUnder, IsTakenUnder};
-ghost use Rattle.questions.specs.boxes.Area.{HasNumbers};
+ghost use Rattle.questions.specs.boxes.Boxes.{HasNumbers};
 
 use crate::asked::leading::{leading_to, none_led};
 use crate::asked::takers::{Takers, takers_of};

@@ -6,7 +6,7 @@ ghost use Rattle.questions.specs.Scopes.{table_of};
 ghost use Rattle.questions.specs.asked.Always.{AreAlwaysShort, IsUnclear as IsUnclearUnder, MayLive, Says as SaysUnder, SaysAt};
 ghost use Rattle.questions.specs.asked.Necessary.{IsByFew};
 ghost use Rattle.questions.specs.asked.Rule.{Says};
-ghost use Rattle.questions.specs.asked.Short.{AreNeverTooLong, AreNeverTooLongUnder};
+ghost use Rattle.questions.specs.asked.Reason.{AreNeverTooLong, AreNeverTooLongUnder};
 ghost use Rattle.questions.specs.asked.Unclear.{IsUnclear, IsUnclearAt};
 ghost use Rattle.questions.specs.declared.asked.rule.Life.TheVariants.{Dead};
 

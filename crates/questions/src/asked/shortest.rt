@@ -5,7 +5,7 @@ ghost use Rattle.questions.specs.Leaves.{entry_of};
 ghost use Rattle.questions.specs.Scopes.{table_of};
 ghost use Rattle.questions.specs.asked.Always.{IsLiveWith};
 ghost use Rattle.questions.specs.asked.Necessary.{AreEnough, AreFew};
-ghost use Rattle.questions.specs.boxes.Area.{IsAtHook};
+ghost use Rattle.questions.specs.boxes.Boxes.{IsAtHook};
 
 use crate::asked::necessary::necessary_of;
 use crate::foreign::answers::Answers;

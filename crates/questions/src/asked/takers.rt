@@ -6,12 +6,11 @@ ghost use Rattle.questions.specs.Leaves.{entry_of};
 ghost use Rattle.questions.specs.Scopes.{table_of};
 ghost use Rattle.questions.specs.asked.Always.{IsAlwaysDead};
 ghost use Rattle.questions.specs.asked.Unknown.{IsUndecidedAtUnder, IsUndecidedUnder, LeadsTo};
-ghost use Rattle.questions.specs.asked.Why.{IsTakenUnder};
+ghost use Rattle.questions.specs.asked.Reason.{IsTakenUnder};
 ghost use Rattle.questions.specs.steps.Answered.{MeetsNever};
 ghost use Rattle.questions.specs.steps.Deciding.{AddsAt, AddsBy, AreBefore, AreTakersOf};
 ghost use Rattle.questions.specs.steps.Leading.{AreLeading};
-ghost use Rattle.questions.specs.steps.Meant.{IsScopeBy, needs_of};
-ghost use Rattle.questions.specs.steps.Takers.{IsLetBy};
+ghost use Rattle.questions.specs.steps.Takers.{IsScopeBy, needs_of, IsLetBy};
 
 use crate::asked::exact::exact_walks;
 use crate::asked::leading::is_led;

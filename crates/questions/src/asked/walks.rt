@@ -1,11 +1,11 @@
 //! The walks of one packet, whatever holds that rules need.
 ghost use Rattle.std.specs.Prelude.{◌≡◌, All, IfOk, IfSome, MatchOption};
-ghost use Rattle.fields.specs.packet.Packet.{IsPacket};
+ghost use Rattle.fields.specs.Packet.{IsPacket};
 ghost use Rattle.questions.specs.Foreign.{AreAsked, Assignment};
 ghost use Rattle.questions.specs.Scopes.{answered, known_by, whole_of};
 ghost use Rattle.questions.specs.asked.Unclear.{IsUnended};
 ghost use Rattle.questions.specs.asked.Walks.{AreWalks, AreWalksUnder};
-ghost use Rattle.questions.specs.boxes.Area.{IsAtHook, IsIn, IsOnly};
+ghost use Rattle.questions.specs.boxes.Boxes.{IsAtHook, IsIn, IsOnly};
 
 use crate::boxes::area::Area;
 use crate::boxes::matched::has;

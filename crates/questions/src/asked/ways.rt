@@ -2,8 +2,8 @@
 ghost use Rattle.std.specs.Prelude.{◌≡◌, ◌<◌, length, IfOk, MatchOption, OnOk};
 ghost use Rattle.questions.specs.Ends.{IsRule};
 ghost use Rattle.questions.specs.asked.Reason.{IsExcluded};
-ghost use Rattle.questions.specs.steps.Collected.{AddsRules};
-ghost use Rattle.questions.specs.steps.Ways.{IsOpen, IsWay};
+ghost use Rattle.questions.specs.steps.Candidates.{AddsRules};
+ghost use Rattle.questions.specs.steps.Leading.{IsOpen, IsWay};
 
 use crate::asked::leading::{names_marked, none_led, spread_from};
 use crate::boxes::boxed_table::BoxedTable;

@@ -3,9 +3,9 @@ ghost use Rattle.std.specs.Prelude.{◌≡◌, ◌<◌, ◌≤◌, ◌&&◌, ◌
 ghost use Rattle.fields.specs.declared.numbers.field.Field.{Field};
 ghost use Rattle.fields.specs.numbers.Field.{all_fields, top};
 ghost use Rattle.fields.specs.numbers.Spans.{SpanSet, has, in_span};
-ghost use Rattle.fields.specs.packet.Packet.{PacketView, IsPacket};
-ghost use Rattle.rules.specs.boxing.Boxed.{IsBox, set_on};
-ghost use Rattle.questions.specs.boxes.Area.{Has, HasNumbers, HasOwnInterfaces, IsAtHook, IsBoth, IsIn, IsNarrowed, is_without};
+ghost use Rattle.fields.specs.Packet.{PacketView, IsPacket};
+ghost use Rattle.rules.specs.Boxed.{IsBox, set_on};
+ghost use Rattle.questions.specs.boxes.Boxes.{Has, HasNumbers, HasOwnInterfaces, IsAtHook, IsBoth, IsIn, IsNarrowed, is_without};
 ghost use Rattle.questions.specs.steps.Sides.{HasOne, IsBeginning, IsPart, IsSide};
 
 use fields::{FIELDS, Field, Hook, Interval, Spans};
@@ -23,7 +23,7 @@ pub struct Area {
 impl Model for Area {
     ghost use Rattle.std.specs.Prelude.{List};
     ghost use Rattle.fields.specs.numbers.Spans.{SpanSet};
-    ghost use Rattle.rules.specs.boxing.Boxed.{IsBox};
+    ghost use Rattle.rules.specs.Boxed.{IsBox};
 
     ghost Value = { List SpanSet };
 

@@ -1,10 +1,9 @@
 //! A table with the boxes of its rules.
 ghost use Rattle.std.specs.Prelude.{◌≡◌, ◌+◌, ◌-◌, ◌^◌, ◌<◌, ◌≤◌, [], false, length, map, min, slice_index_or, IfOk, IsTrue};
-ghost use Rattle.rules.specs.boxing.Boxed.{IsBoxOf};
+ghost use Rattle.rules.specs.Boxed.{IsBoxOf};
 ghost use Rattle.rules.specs.rule.Rules.{empty_rule};
 ghost use Rattle.table.specs.chains.Table.{chain_at};
-ghost use Rattle.questions.specs.boxes.Area.{HasNumbers};
-ghost use Rattle.questions.specs.boxes.Boxes.{AreBoxesOf, AreBoxesOfRules, rules_in};
+ghost use Rattle.questions.specs.boxes.Boxes.{HasNumbers, AreBoxesOf, AreBoxesOfRules, rules_in};
 ghost use Rattle.questions.specs.boxes.Calls.{AreCalls};
 ghost use Rattle.questions.specs.boxes.Cut.{IsAllowedIn, IsApart};
 ghost use Rattle.questions.specs.steps.Lengths.{AreLeastBounds};

@@ -3,15 +3,13 @@
 ghost use Rattle.std.specs.Prelude.{◌≡◌, ◌<◌, ◌≤◌, ◌⊎◌, ℕ, true, List, All, length, IfOk, OnOk};
 ghost use Rattle.fields.specs.numbers.Spans.{SpanSet};
 ghost use Rattle.fields.specs.numbers.Field.{top};
-ghost use Rattle.rules.specs.boxing.Boxed.{IsBox, IsBoxOf, set_on};
+ghost use Rattle.rules.specs.Boxed.{IsBox, IsBoxOf, set_on};
 ghost use Rattle.rules.specs.rule.Allows.{matches};
 ghost use Rattle.rules.specs.rule.Crossing.{IsListedByRule, IsParted};
 ghost use Rattle.rules.specs.rule.Rules.{Rule};
-ghost use Rattle.classify.specs.classifier.Classifier.{IsPoint};
-ghost use Rattle.questions.specs.boxes.Area.{Has, HasNumbers, IsBoth};
-ghost use Rattle.questions.specs.boxes.Cut.{IsCutBy, IsInSome};
-ghost use Rattle.questions.specs.boxes.Meeting.{AreMet};
-ghost use Rattle.questions.specs.boxes.Parts.{AreByPorts, AreDisjoint, AreFew, IsSideOf, boxes_of};
+ghost use Rattle.classify.specs.Classifier.{IsPoint};
+ghost use Rattle.questions.specs.boxes.Boxes.{Has, HasNumbers, IsBoth};
+ghost use Rattle.questions.specs.boxes.Cut.{IsCutBy, IsInSome, AreMet, AreByPorts, AreDisjoint, AreFew, IsSideOf, boxes_of};
 ghost use Rattle.questions.specs.steps.Sides.{AddsLeaving, LeavesAt};
 
 use crate::boxes::area::Area;

@@ -2,9 +2,9 @@
 ghost use Rattle.std.specs.Prelude.{◌≡◌, ◌≤◌, ℕ, List, true, min, IsTrue};
 ghost use Rattle.fields.specs.numbers.Field.{number_on, top};
 ghost use Rattle.fields.specs.numbers.Spans.{has, in_span};
-ghost use Rattle.rules.specs.boxing.Boxed.{IsBox};
-ghost use Rattle.classify.specs.classifier.Classifier.{IsPoint};
-ghost use Rattle.questions.specs.boxes.Area.{Has};
+ghost use Rattle.rules.specs.Boxed.{IsBox};
+ghost use Rattle.classify.specs.Classifier.{IsPoint};
+ghost use Rattle.questions.specs.boxes.Boxes.{Has};
 ghost use Rattle.questions.specs.steps.Outlines.{IsBetween, IsOutlined, IsWithin};
 
 use fields::{Field, Interval, Spans};

@@ -1,8 +1,8 @@
 //! Whether all packets of a box are in another one.
 ghost use Rattle.std.specs.Prelude.{◌≡◌, ◌≤◌, ℕ, List, false, true, IsFalse, IsTrue};
 ghost use Rattle.fields.specs.numbers.Spans.{has};
-ghost use Rattle.rules.specs.boxing.Boxed.{IsBox};
-ghost use Rattle.questions.specs.boxes.Area.{Has, IsNarrower};
+ghost use Rattle.rules.specs.Boxed.{IsBox};
+ghost use Rattle.questions.specs.boxes.Boxes.{Has, IsNarrower};
 
 use fields::{FIELDS, Interval, Spans};
 

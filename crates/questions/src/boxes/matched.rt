@@ -1,7 +1,7 @@
 //! Which packets a box has, and which a rule matches.
 ghost use Rattle.std.specs.Prelude.{◌≡◌};
-ghost use Rattle.classify.specs.classifier.Classifier.{box_matches};
-ghost use Rattle.rules.specs.boxing.Boxed.{IsBox};
+ghost use Rattle.classify.specs.Classifier.{box_matches};
+ghost use Rattle.rules.specs.Boxed.{IsBox};
 ghost use Rattle.rules.specs.rule.Allows.{matches};
 ghost use Rattle.questions.specs.Ends.{IsRule, rule_at};
 

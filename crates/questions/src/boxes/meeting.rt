@@ -1,10 +1,10 @@
 //! Whether boxes have packets in common, which a step tests before it takes memory.
 ghost use Rattle.std.specs.Prelude.{◌≡◌, ◌&&◌, ℕ, List, false, IsTrue};
 ghost use Rattle.fields.specs.numbers.Spans.{has};
-ghost use Rattle.rules.specs.boxing.Boxed.{IsBox};
-ghost use Rattle.classify.specs.classifier.Classifier.{IsPoint};
-ghost use Rattle.questions.specs.boxes.Area.{Has, HasNumbers};
-ghost use Rattle.questions.specs.boxes.Meeting.{AreMet, AreWholeBut, HaveCommon, IsWhole};
+ghost use Rattle.rules.specs.Boxed.{IsBox};
+ghost use Rattle.classify.specs.Classifier.{IsPoint};
+ghost use Rattle.questions.specs.boxes.Boxes.{Has, HasNumbers};
+ghost use Rattle.questions.specs.boxes.Cut.{AreMet, AreWholeBut, HaveCommon, IsWhole};
 
 use fields::{FIELDS, Spans};
 

@@ -1,9 +1,9 @@
 //! The box of a rule, with what tells most other boxes apart from it at once.
 ghost use Rattle.std.specs.Prelude.{◌≡◌, ℕ, List, false, IfOk, IsTrue};
 ghost use Rattle.fields.specs.numbers.Spans.{SpanSet};
-ghost use Rattle.classify.specs.classifier.Classifier.{IsPoint};
-ghost use Rattle.questions.specs.boxes.Area.{Has, HasNumbers};
-ghost use Rattle.questions.specs.boxes.Meeting.{AreMet, AreWholeBut};
+ghost use Rattle.classify.specs.Classifier.{IsPoint};
+ghost use Rattle.questions.specs.boxes.Boxes.{Has, HasNumbers};
+ghost use Rattle.questions.specs.boxes.Cut.{AreMet, AreWholeBut};
 ghost use Rattle.questions.specs.steps.Outlines.{IsOutlined};
 
 use crate::boxes::area::Area;
@@ -26,7 +26,7 @@ pub(crate) struct RuleBox {
 impl Model for RuleBox {
     ghost use Rattle.std.specs.Prelude.{List};
     ghost use Rattle.fields.specs.numbers.Spans.{SpanSet};
-    ghost use Rattle.questions.specs.boxes.Meeting.{AreWholeBut};
+    ghost use Rattle.questions.specs.boxes.Cut.{AreWholeBut};
     ghost use Rattle.questions.specs.steps.Outlines.{IsOutlined};
 
     ghost Value = { List SpanSet };

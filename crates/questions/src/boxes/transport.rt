@@ -2,7 +2,7 @@
 ghost use Rattle.std.specs.Prelude.{◌≡◌, ◌≤◌, ◌==◌, ◌||◌, ℕ, Bool, not, IfOk};
 ghost use Rattle.fields.specs.numbers.Field.{protocol_top, top};
 ghost use Rattle.fields.specs.numbers.Spans.{has};
-ghost use Rattle.questions.specs.boxes.Area.{IsCarrying};
+ghost use Rattle.questions.specs.boxes.Boxes.{IsCarrying};
 ghost use Rattle.questions.specs.steps.Transports.{AreByTransport, AreNumbersWith, IsFirstWith, IsKept, IsWithTransport, is_ported};
 ghost use Rattle.fields.specs.values.Protocol.{carries_ports};
 

@@ -2,7 +2,7 @@
 ghost use Rattle.std.specs.Prelude.{◌≡◌, [], ◌∷◌, not, IfOk};
 ghost use Rattle.table.specs.chains.Table.{Table};
 ghost use Rattle.questions.specs.Foreign.{AgreeOnOpen, Agrees, Assignment, resolved};
-ghost use Rattle.questions.specs.steps.Remaining.{AreAlike, AreAlikeInChain, AreFree, AreFreeInChain};
+ghost use Rattle.questions.specs.steps.Answered.{AreAlike, AreAlikeInChain, AreFree, AreFreeInChain};
 
 use crate::foreign::answers::Answers;
 use crate::foreign::need::{Need, Needs};

@@ -3,9 +3,8 @@ ghost use Rattle.std.specs.Prelude.{◌≡◌, ◌≤◌, ◌↔◌, ℕ, [], fa
 ghost use Rattle.fields.specs.declared.numbers.field.Field.{Field};
 ghost use Rattle.fields.specs.numbers.Field.{fragment_top, protocol_top};
 ghost use Rattle.fields.specs.numbers.Spans.{has};
-ghost use Rattle.classify.specs.classifier.Classifier.{box_allows};
-ghost use Rattle.questions.specs.steps.Chosen.{HasNoKindWith, IsKindAt, IsKindOf, IsNumberOn, carries_field};
-ghost use Rattle.questions.specs.steps.Sampled.{HasNone, IsChosen};
+ghost use Rattle.classify.specs.Classifier.{box_allows};
+ghost use Rattle.questions.specs.steps.Sampled.{HasNoKindWith, IsKindAt, IsKindOf, IsNumberOn, carries_field, HasNone, IsChosen};
 
 use crate::boxes::area::Area;
 use crate::sampling::interface::interface_in;

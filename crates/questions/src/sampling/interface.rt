@@ -2,8 +2,7 @@
 ghost use Rattle.std.specs.Prelude.{◌≡◌, ◌<◌, ◌≤◌, ◌+◌, ◌^◌, IfSome, MatchOption, if◌then◌else◌};
 ghost use Rattle.fields.specs.numbers.Spans.{has, in_span};
 ghost use Rattle.fields.specs.values.Interface.{interface_value, is_interface_byte};
-ghost use Rattle.questions.specs.steps.Chosen.{FindsNone, HasNoneFrom, IsFound, IsLeast, IsNameByte, IsNamed, IsTail};
-ghost use Rattle.questions.specs.steps.Sampled.{IsInterfaceNumber};
+ghost use Rattle.questions.specs.steps.Sampled.{FindsNone, HasNoneFrom, IsFound, IsLeast, IsNameByte, IsNamed, IsTail, IsInterfaceNumber};
 
 use fields::{IfPattern, Interval, Spans};
 

@@ -3,8 +3,7 @@ ghost use Rattle.std.specs.Prelude.{◌≡◌, ◌≤◌, ◌++◌, ◌∷◌, O
 ghost use Rattle.fields.specs.declared.packet.hook.Hook.{Hook};
 ghost use Rattle.fields.specs.numbers.Field.{top};
 ghost use Rattle.fields.specs.values.Protocol.{carries_ports};
-ghost use Rattle.questions.specs.steps.Lines.{is_written, word_of};
-ghost use Rattle.questions.specs.steps.Sampled.{CanBeWritten, Writes, packet_with};
+ghost use Rattle.questions.specs.steps.Sampled.{is_written, word_of, CanBeWritten, Writes, packet_with};
 
 use fields::{FIELDS, Field, Hook};
 use notation::put_value;

@@ -1,6 +1,6 @@
 //! A packet of a box at a hook, with the words that write it; none only where no line writes one.
 ghost use Rattle.std.specs.Prelude.{◌≡◌, Ok, IfOk, MatchOption};
-ghost use Rattle.fields.specs.packet.Packet.{PacketView, packet_of};
+ghost use Rattle.fields.specs.Packet.{PacketView, packet_of};
 ghost use Rattle.questions.specs.Written.{HasNoneWritten, IsSampleOf};
 ghost use Rattle.questions.specs.steps.Sampled.{Writes};
 

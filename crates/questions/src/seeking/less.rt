@@ -1,6 +1,6 @@
 //! Whether parts of a scope are smaller, so that the search for a packet gets on.
 ghost use Rattle.std.specs.Prelude.{All, IsTrue};
-ghost use Rattle.questions.specs.steps.Tries.{IsLess};
+ghost use Rattle.questions.specs.steps.Seeking.{IsLess};
 
 use crate::boxes::lying::lies_in;
 use crate::walking::scope::Scope;

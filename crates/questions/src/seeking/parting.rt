@@ -1,12 +1,11 @@
 //! Ways of which a rule asks both ports: their packets are parted by the ports that it lists, until it matches all of them.
 ghost use Rattle.std.specs.Prelude.{All, Any, IfOk, IfSome};
-ghost use Rattle.fields.specs.packet.Packet.{PacketView};
+ghost use Rattle.fields.specs.Packet.{PacketView};
 ghost use Rattle.table.specs.declared.walk.trail.Step.{Step as Place};
 ghost use Rattle.questions.specs.Foreign.{Assignment};
 ghost use Rattle.questions.specs.Scopes.{table_of};
-ghost use Rattle.questions.specs.boxes.Area.{IsAtHook};
-ghost use Rattle.questions.specs.steps.Seeking.{AllMatch, IsHere, IsPlaceOf, IsSeen};
-ghost use Rattle.questions.specs.steps.Tries.{IsLess};
+ghost use Rattle.questions.specs.boxes.Boxes.{IsAtHook};
+ghost use Rattle.questions.specs.steps.Seeking.{AllMatch, IsHere, IsPlaceOf, IsSeen, IsLess};
 
 use crate::foreign::subject::Subject;
 use crate::seeking::less::are_less;

@@ -9,10 +9,9 @@ ghost use Rattle.questions.specs.Scopes.{answered, table_of, whole_of};
 ghost use Rattle.questions.specs.Written.{IsSampleOf};
 ghost use Rattle.questions.specs.asked.Always.{SaysAt};
 ghost use Rattle.questions.specs.asked.Unclear.{IsSoughtInVain, IsUnclearAt};
-ghost use Rattle.questions.specs.boxes.Area.{IsAtHook};
-ghost use Rattle.questions.specs.steps.Seeking.{AreScopesOf};
+ghost use Rattle.questions.specs.boxes.Boxes.{IsAtHook};
+ghost use Rattle.questions.specs.steps.Seeking.{AreScopesOf, IsLess};
 ghost use Rattle.questions.specs.steps.Tried.{IsElsewhere, IsTried};
-ghost use Rattle.questions.specs.steps.Tries.{IsLess};
 
 use crate::asked::matching::scope_at;
 use crate::asked::necessary::is_always_on;

@@ -1,8 +1,7 @@
 //! A rule with its box and what it needs.
 ghost use Rattle.std.specs.Prelude.{◌≡◌, false, IsTrue, MatchOption};
-ghost use Rattle.rules.specs.boxing.Boxed.{IsBoxOf};
-ghost use Rattle.questions.specs.steps.Ahead.{Decides};
-ghost use Rattle.questions.specs.steps.Straying.{TakesOut};
+ghost use Rattle.rules.specs.Boxed.{IsBoxOf};
+ghost use Rattle.questions.specs.steps.Straying.{Decides, TakesOut};
 
 use crate::boxes::matched::has;
 use crate::boxes::rule_box::RuleBox;
@@ -26,7 +25,7 @@ impl<'a> Seen<'a> {
     ghost use Rattle.rules.specs.rule.Allows.{matches};
     ghost use Rattle.questions.specs.Ends.{IsRule};
     ghost use Rattle.questions.specs.Scopes.{table_of};
-    ghost use Rattle.questions.specs.boxes.Area.{IsAtHook};
+    ghost use Rattle.questions.specs.boxes.Boxes.{IsAtHook};
     ghost use Rattle.questions.specs.steps.Seeking.{IsSeen};
 
     // The rule of a step, if it is there.

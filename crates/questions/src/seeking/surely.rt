@@ -5,7 +5,7 @@ ghost use Rattle.questions.specs.Foreign.{Agrees, Assignment};
 ghost use Rattle.questions.specs.Leaves.{entry_of};
 ghost use Rattle.questions.specs.Scopes.{answered, table_of};
 ghost use Rattle.questions.specs.asked.Necessary.{AreEnough};
-ghost use Rattle.questions.specs.boxes.Area.{IsAtHook};
+ghost use Rattle.questions.specs.boxes.Boxes.{IsAtHook};
 ghost use Rattle.questions.specs.steps.Before.{AreMetBefore, AreMetIn, IsMetThere, IsSought, LeavesThere};
 ghost use Rattle.questions.specs.steps.Lengths.{number_of};
 

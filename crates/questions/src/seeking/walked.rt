@@ -1,14 +1,13 @@
 //! The walks of one packet of a way, where the way doesn't tell what becomes of it: one of them has the rule, or all other packets of the way are left.
 ghost use Rattle.std.specs.Prelude.{All, Any, Contains, IfOk, MatchOption, OnOk};
-ghost use Rattle.fields.specs.packet.Packet.{PacketView};
+ghost use Rattle.fields.specs.Packet.{PacketView};
 ghost use Rattle.questions.specs.Ends.{IsRule};
 ghost use Rattle.questions.specs.Scopes.{table_of};
 ghost use Rattle.questions.specs.Written.{IsSampleOf};
-ghost use Rattle.questions.specs.boxes.Area.{IsAtHook, IsIn};
+ghost use Rattle.questions.specs.boxes.Boxes.{IsAtHook, IsIn};
 ghost use Rattle.questions.specs.steps.Answered.{IsMeeting, MeetsNever};
-ghost use Rattle.questions.specs.steps.Tried.{IsTried, TakesAllBut};
-ghost use Rattle.questions.specs.steps.Tries.{AddsWays, IsWayFor};
-ghost use Rattle.questions.specs.steps.Walked.{IsCome, IsGone};
+ghost use Rattle.questions.specs.steps.Tried.{IsTried, TakesAllBut, IsCome, IsGone};
+ghost use Rattle.questions.specs.steps.Seeking.{AddsWays, IsWayFor};
 
 use crate::asked::rule::is_on;
 use crate::asked::walks::box_of;

@@ -1,14 +1,13 @@
 //! Ways to a rule: the jumps and gotos by which packets come to its chain.
 ghost use Rattle.std.specs.Prelude.{◌≡◌, ◌≢◌, ◌<◌, [], true, length, IfOk, IfSome, IsTrue, MatchOption, OnOk};
-ghost use Rattle.fields.specs.packet.Packet.{PacketView};
+ghost use Rattle.fields.specs.Packet.{PacketView};
 ghost use Rattle.rules.specs.rule.Allows.{matches};
 ghost use Rattle.table.specs.steps.Kept.{hook_index};
 ghost use Rattle.questions.specs.Foreign.{Assignment, all_hold};
 ghost use Rattle.questions.specs.Scopes.{table_of, whole_of};
-ghost use Rattle.questions.specs.boxes.Area.{IsAtHook};
+ghost use Rattle.questions.specs.boxes.Boxes.{IsAtHook};
 ghost use Rattle.questions.specs.boxes.Calls.{IsCall};
-ghost use Rattle.questions.specs.steps.Seeking.{IsAheadOn, IsForOne, IsHere, TakesBy, TakesOver, TakesScopes, top_of};
-ghost use Rattle.questions.specs.steps.Tries.{AddsWays, IsLetOn, IsLonger};
+ghost use Rattle.questions.specs.steps.Seeking.{IsAheadOn, IsForOne, IsHere, TakesBy, TakesOver, TakesScopes, top_of, AddsWays, IsLetOn, IsLonger};
 
 use crate::foreign::need::meeting;
 use crate::foreign::subject::Subject;

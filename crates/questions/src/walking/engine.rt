@@ -1,7 +1,7 @@
 //! The walk of a box through a table, step after step, until no box is left.
 ghost use Rattle.std.specs.Prelude.{◌≡◌, ◌≢◌, ◌+◌, ◌<◌, List, All, length, IfOk, IfSome, MatchOption, OnOk};
 ghost use Rattle.fields.specs.numbers.Field.{all_fields};
-ghost use Rattle.fields.specs.packet.Packet.{PacketView};
+ghost use Rattle.fields.specs.Packet.{PacketView};
 ghost use Rattle.table.specs.declared.verdict.Verdict.{Verdict};
 ghost use Rattle.table.specs.declared.verdict.Verdict.TheVariants.{TooLong};
 ghost use Rattle.table.specs.steps.Kept.{hook_index};
@@ -10,11 +10,8 @@ ghost use Rattle.questions.specs.Foreign.{AreAsked, Assignment};
 ghost use Rattle.questions.specs.Leaves.{AreExactOn, AreLeavesOf};
 ghost use Rattle.questions.specs.Scopes.{AreExactUnder, AreLeavesUnder, IsSurely, answered, known_by, table_of, whole_of};
 ghost use Rattle.questions.specs.declared.foreign.need.Need.{Need};
-ghost use Rattle.questions.specs.steps.Asking.{AllAsked, KeepsAsked};
-ghost use Rattle.questions.specs.steps.Onward.{AddsTasks, GetsOn};
-ghost use Rattle.questions.specs.steps.Parted.{AddsParts};
-ghost use Rattle.questions.specs.steps.Taken.{IsFinished, IsFinishedUnder, IsFirst, IsUnfinished, IsUnfinishedUnder};
-ghost use Rattle.questions.specs.steps.Waiting.{AreThere, Begins, Moves, stage_of};
+ghost use Rattle.questions.specs.steps.Waiting.{AllAsked, KeepsAsked, AreThere, Begins, Moves, stage_of};
+ghost use Rattle.questions.specs.steps.Taken.{AddsTasks, GetsOn, AddsParts, IsFinished, IsFinishedUnder, IsFirst, IsUnfinished, IsUnfinishedUnder};
 
 use crate::boxes::area::Area;
 use crate::boxes::boxed_table::BoxedTable;

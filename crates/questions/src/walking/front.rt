@@ -23,10 +23,8 @@ pub(crate) struct Front {
 impl Front {
     ghost use Rattle.std.specs.Prelude.{List};
     ghost use Rattle.questions.specs.declared.foreign.need.Need.{Need};
-    ghost use Rattle.questions.specs.steps.Asking.{KeepsAsked};
-    ghost use Rattle.questions.specs.steps.Onward.{AddsTasks, IsPut};
-    ghost use Rattle.questions.specs.steps.Parted.{AddsOne, AddsParts};
-    ghost use Rattle.questions.specs.steps.Waiting.{AreThere, IsLastMet, Moves, stage_of};
+    ghost use Rattle.questions.specs.steps.Waiting.{KeepsAsked, AreThere, IsLastMet, Moves, stage_of};
+    ghost use Rattle.questions.specs.steps.Taken.{AddsTasks, IsPut, AddsOne, AddsParts};
 
     // One task more.
     pub(crate) fn add_task(&mut self, task: Task) -> Result<(), AllocError>

@@ -1,6 +1,6 @@
 //! How many rules match in a walk at most.
 ghost use Rattle.std.specs.Prelude.{◌≡◌, ◌≢◌, ◌<◌, ◌≤◌, ◌↔◌, false, length, min, slice_index, IfOk, IsTrue};
-ghost use Rattle.fields.specs.packet.Packet.{PacketView};
+ghost use Rattle.fields.specs.Packet.{PacketView};
 ghost use Rattle.rules.specs.rule.Actions.{target_of};
 ghost use Rattle.table.specs.declared.verdict.Verdict.TheVariants.{TooLong};
 ghost use Rattle.table.specs.walk.Walk.{walk};

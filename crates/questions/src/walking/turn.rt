@@ -9,12 +9,9 @@ ghost use Rattle.table.specs.walk.Walk.{after_match, whole};
 ghost use Rattle.questions.specs.Foreign.{Agrees, Assignment, IsNeeded, IsUnanswered, needs_at};
 ghost use Rattle.questions.specs.Scopes.{Known, answered, entries_by, is_met, known_by, table_of, whole_of};
 ghost use Rattle.questions.specs.declared.foreign.need.Need.{Need as Needed};
-ghost use Rattle.questions.specs.steps.Ahead.{Stays};
-ghost use Rattle.questions.specs.steps.Asking.{KeepsAsked};
-ghost use Rattle.questions.specs.steps.Branches.{CanAsk, IsBranch, IsNeededBy, target_at};
-ghost use Rattle.questions.specs.steps.Onward.{AddsTasks, GetsOn, IsAnswered, IsBesides, IsEntered, IsNeededNext, IsPut, IsTurned};
-ghost use Rattle.questions.specs.steps.Parted.{AddsBoxes, AddsOne, AddsParts};
-ghost use Rattle.questions.specs.steps.Waiting.{AreNamedAlike, AreThere, IsLastMet, IsThere, Moves, PassesOver, rest_of, rests_of, stage_at};
+ghost use Rattle.questions.specs.steps.Straying.{Stays, CanAsk, IsBranch, IsNeededBy, target_at};
+ghost use Rattle.questions.specs.steps.Waiting.{KeepsAsked, AreNamedAlike, AreThere, IsLastMet, IsThere, Moves, PassesOver, rest_of, rests_of, stage_at};
+ghost use Rattle.questions.specs.steps.Taken.{AddsTasks, GetsOn, IsAnswered, IsBesides, IsEntered, IsNeededNext, IsPut, IsTurned, AddsBoxes, AddsOne, AddsParts};
 
 use crate::boxes::area::Area;
 use crate::boxes::cut::{Cut, cut_by};

@@ -2,8 +2,7 @@
 use Rattle.std.specs.Prelude.{ℕ, Bool, true, false, IsTrue, List, Option, is_none, option_map, Result, Ok, Err}
 use Rattle.rules.specs.Sequence.{refusal_of}
 use Rattle.table.specs.chains.Table.{TableView}
-use Rattle.table.specs.edits.Boxes.{puts_rule}
-use Rattle.table.specs.edits.Edits.{Edit, IsStepOf}
+use Rattle.table.specs.edits.Edits.{puts_rule, Edit, IsStepOf}
 use Rattle.table.specs.declared.fault.TableFault.{TableFault}
 use Rattle.table.specs.edits.Edits as edit
 use Rattle.restore.specs.Sequence.{Gives}

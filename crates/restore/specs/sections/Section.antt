@@ -1,9 +1,11 @@
--- A section of a restore: its lines, applied in order to a table of its own (iptables-restore(8)).
-use Rattle.std.specs.Prelude.{ℕ, ◌-◌, ◌==◌, ◌&&◌, ◌||◌, not, nat_lt, Bool, true, false, List, [], ◌∷◌, ◌++◌, find, length, take, drop, option_and_then}
-use Rattle.std.specs.Prelude.{Option, Some, None, Result, Ok, Err, codes, if◌then◌else◌, refl}
+-- A section of a restore: its lines, applied in order to a table of its own (iptables-restore(8)), and the names of its new chains.
+use Rattle.std.specs.Prelude.{ℕ, ◌-◌, ◌==◌, ◌&&◌, ◌||◌, not, nat_lt, Bool, true, false, List, [], ◌∷◌, ◌++◌, find, length, take, drop, option_and_then, Option, Some, None, Result, Ok, Err, codes, if◌then◌else◌, refl}
+use Rattle.std.specs.Cmp.Lexicographic.{slice_cmp}
+use Rattle.std.specs.FinSet.{FinSet}
+use Rattle.std.specs.Ordering.{nat_cmp}
 use Rattle.std.specs.Coded.{Coded, code_by, coded×}
-use Rattle.std.specs.FinSet as set
 use Rattle.std.specs.Str.{bytes_eq}
+use Rattle.std.specs.FinSet as set
 use Rattle.fields.specs.text.Cut.{cut_at}
 use Rattle.fields.specs.text.Words.{is_blank, words_of}
 use Rattle.table.specs.chains.Table.{Table, TableView, emptied, is_built_in, has_chain}
@@ -11,12 +13,18 @@ use Rattle.table.specs.edits.Edits.{Edit, Flush, NewChain, SetPolicy, step}
 use Rattle.table.specs.declared.fault.TableFault.{TableFault}
 use Rattle.table.specs.declared.fault.TableFault.TheVariants as table
 use Rattle.restore.specs.Sequence.{◌>>=◌, or_refused, refused_as, made_into}
-use Rattle.restore.specs.commands.Command as command
 use Rattle.restore.specs.commands.CommandForms.{edit_of, is_digits}
-use Rattle.restore.specs.sections.Names.{Names}
 pub use Rattle.restore.specs.declared.fault.RestoreFault.{RestoreFault}
-pub use Rattle.restore.specs.declared.fault.RestoreFault.TheVariants.{Command, Table as OfTable, NotAllowed, BadChainLine, DuplicateChainLine}
-pub use Rattle.restore.specs.declared.fault.RestoreFault.TheVariants.{EndBeforeCommit, Quoting, LineTooLong, NoMemory}
+pub use Rattle.restore.specs.declared.fault.RestoreFault.TheVariants.{Command, Table as OfTable, NotAllowed, BadChainLine, DuplicateChainLine, EndBeforeCommit, Quoting, LineTooLong, NoMemory}
+use Rattle.restore.specs.commands.Command as command
+
+-- ---- Sets of names.
+
+-- a set of names, each of any bytes
+abbrev pub Names : Type 0
+Names = FinSet (slice_cmp nat_cmp)
+
+-- ---- A section of a restore: its lines, applied in order to a table of its own (iptables-restore(8)).
 
 -- memory ran out in a call of the table
 abbrev pub is_memory_of_table : TableFault → Bool

@@ -14,7 +14,7 @@ use fields::Words;
 use std::alloc::Global;
 
 // A chain, and a rule to be put last.
-#[tactic(auto, using(crate::proofs::laws::commands::MemoryLaws::of_rule, crate::proofs::laws::commands::MemoryLaws::appended))]
+#[tactic(auto, using(crate::proofs::laws::commands::LineLaws::of_rule, crate::proofs::laws::commands::LineLaws::appended))]
 fn append<'a>(alloc: Global, words: &'a Words, place: usize) -> Result<Command<'a>, CommandFault>
     ensures { IsRead result ((row_of command_names.Append).follows (length words.now) (drop place words.now)) }
 {
@@ -24,7 +24,7 @@ fn append<'a>(alloc: Global, words: &'a Words, place: usize) -> Result<Command<'
 }
 
 // A chain, and a rule to be looked for.
-#[tactic(auto, using(crate::proofs::laws::commands::MemoryLaws::of_rule, crate::proofs::laws::commands::MemoryLaws::checked))]
+#[tactic(auto, using(crate::proofs::laws::commands::LineLaws::of_rule, crate::proofs::laws::commands::LineLaws::checked))]
 fn check<'a>(alloc: Global, words: &'a Words, place: usize) -> Result<Command<'a>, CommandFault>
     ensures { IsRead result ((row_of command_names.Check).follows (length words.now) (drop place words.now)) }
 {
@@ -34,7 +34,7 @@ fn check<'a>(alloc: Global, words: &'a Words, place: usize) -> Result<Command<'a
 }
 
 // A chain, and the number of a rule to be taken out or the rule itself.
-#[tactic(auto, using(crate::proofs::laws::commands::MemoryLaws::of_rule, crate::proofs::laws::commands::MemoryLaws::deleted))]
+#[tactic(auto, using(crate::proofs::laws::commands::LineLaws::of_rule, crate::proofs::laws::commands::LineLaws::deleted))]
 fn delete<'a>(alloc: Global, words: &'a Words, place: usize) -> Result<Command<'a>, CommandFault>
     ensures { IsRead result ((row_of command_names.Delete).follows (length words.now) (drop place words.now)) }
 {
@@ -48,7 +48,7 @@ fn delete<'a>(alloc: Global, words: &'a Words, place: usize) -> Result<Command<'
 }
 
 // A chain, the number that a rule is to have, or else 1, and the rule.
-#[tactic(auto, using(crate::proofs::laws::commands::MemoryLaws::of_rule, crate::proofs::laws::commands::MemoryLaws::inserted))]
+#[tactic(auto, using(crate::proofs::laws::commands::LineLaws::of_rule, crate::proofs::laws::commands::LineLaws::inserted))]
 fn insert<'a>(alloc: Global, words: &'a Words, place: usize) -> Result<Command<'a>, CommandFault>
     ensures { IsRead result ((row_of command_names.Insert).follows (length words.now) (drop place words.now)) }
 {
@@ -66,7 +66,7 @@ fn insert<'a>(alloc: Global, words: &'a Words, place: usize) -> Result<Command<'
 }
 
 // A chain, the number of a rule, and the rule to stand there.
-#[tactic(auto, using(crate::proofs::laws::commands::MemoryLaws::of_rule, crate::proofs::laws::commands::MemoryLaws::replaced))]
+#[tactic(auto, using(crate::proofs::laws::commands::LineLaws::of_rule, crate::proofs::laws::commands::LineLaws::replaced))]
 fn replace<'a>(alloc: Global, words: &'a Words, place: usize) -> Result<Command<'a>, CommandFault>
     ensures { IsRead result ((row_of command_names.Replace).follows (length words.now) (drop place words.now)) }
 {
@@ -77,7 +77,7 @@ fn replace<'a>(alloc: Global, words: &'a Words, place: usize) -> Result<Command<
 }
 
 // A chain to be emptied, or all.
-#[tactic(auto, using(crate::proofs::laws::commands::MemoryLaws::of_rule))]
+#[tactic(auto, using(crate::proofs::laws::commands::LineLaws::of_rule))]
 fn flush<'a>(words: &'a Words, place: usize) -> Result<Command<'a>, CommandFault>
     ensures { IsRead result ((row_of command_names.Flush).follows (length words.now) (drop place words.now)) }
 {
@@ -88,7 +88,7 @@ fn flush<'a>(words: &'a Words, place: usize) -> Result<Command<'a>, CommandFault
 }
 
 // A chain to be taken away, or all user chains.
-#[tactic(auto, using(crate::proofs::laws::commands::MemoryLaws::of_rule))]
+#[tactic(auto, using(crate::proofs::laws::commands::LineLaws::of_rule))]
 fn delete_chain<'a>(words: &'a Words, place: usize) -> Result<Command<'a>, CommandFault>
     ensures { IsRead result ((row_of command_names.DeleteChain).follows (length words.now) (drop place words.now)) }
 {
@@ -99,7 +99,7 @@ fn delete_chain<'a>(words: &'a Words, place: usize) -> Result<Command<'a>, Comma
 }
 
 // The name of a chain to be made.
-#[tactic(auto, using(crate::proofs::laws::commands::MemoryLaws::of_rule))]
+#[tactic(auto, using(crate::proofs::laws::commands::LineLaws::of_rule))]
 fn new_chain<'a>(words: &'a Words, place: usize) -> Result<Command<'a>, CommandFault>
     ensures { IsRead result ((row_of command_names.NewChain).follows (length words.now) (drop place words.now)) }
 {
@@ -108,7 +108,7 @@ fn new_chain<'a>(words: &'a Words, place: usize) -> Result<Command<'a>, CommandF
 }
 
 // A chain, and its policy.
-#[tactic(auto, using(crate::proofs::laws::commands::MemoryLaws::of_rule))]
+#[tactic(auto, using(crate::proofs::laws::commands::LineLaws::of_rule))]
 fn policy<'a>(words: &'a Words, place: usize) -> Result<Command<'a>, CommandFault>
     ensures { IsRead result ((row_of command_names.Policy).follows (length words.now) (drop place words.now)) }
 {
@@ -118,7 +118,7 @@ fn policy<'a>(words: &'a Words, place: usize) -> Result<Command<'a>, CommandFaul
 }
 
 // A chain, and its new name.
-#[tactic(auto, using(crate::proofs::laws::commands::MemoryLaws::of_rule))]
+#[tactic(auto, using(crate::proofs::laws::commands::LineLaws::of_rule))]
 fn rename<'a>(words: &'a Words, place: usize) -> Result<Command<'a>, CommandFault>
     ensures { IsRead result ((row_of command_names.Rename).follows (length words.now) (drop place words.now)) }
 {
@@ -128,7 +128,7 @@ fn rename<'a>(words: &'a Words, place: usize) -> Result<Command<'a>, CommandFaul
 }
 
 // A chain whose rules are to be listed, or all.
-#[tactic(auto, using(crate::proofs::laws::commands::MemoryLaws::of_rule))]
+#[tactic(auto, using(crate::proofs::laws::commands::LineLaws::of_rule))]
 fn list_rules<'a>(words: &'a Words, place: usize) -> Result<Command<'a>, CommandFault>
     ensures { IsRead result ((row_of command_names.ListRules).follows (length words.now) (drop place words.now)) }
 {

@@ -17,7 +17,7 @@ impl Model for Names {
     ghost use Rattle.std.specs.Prelude.{map};
     ghost use Rattle.std.specs.Coded.{coded_list, coded_ℕ};
     ghost use Rattle.std.specs.FinSet as set;
-    ghost use Rattle.restore.specs.sections.Names.{Names as Set};
+    ghost use Rattle.restore.specs.sections.Section.{Names as Set};
 
     ghost Value = { Set };
 

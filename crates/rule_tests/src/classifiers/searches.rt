@@ -1,7 +1,7 @@
 //! Searches, beside a plain one that asks each rule's bit on each field.
 
 ghost use Rattle.std.specs.Prelude.{IsTrue};
-ghost use Rattle.classify.specs.classifier.Classifier.{IsPoint};
+ghost use Rattle.classify.specs.Classifier.{IsPoint};
 
 use crate::classifiers::texts::append;
 use classify::Classifier;

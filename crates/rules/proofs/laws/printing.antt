@@ -1,4 +1,3 @@
-pub mod ListedLaws
 pub mod PrintLaws
 pub mod RoundLaws
 pub mod RoundTripLaws

@@ -1,10 +1,5 @@
 pub mod GrammarLaws
-pub mod GroupLaws
 pub mod KeepLaws
-pub mod NormalFormLaws
-pub mod OptionWordsLaws
-pub mod OrderLaws
-pub mod PlaceLaws
 pub mod Readable
 pub mod ReadableLaws
 pub mod StepLaws

@@ -1,11 +1,10 @@
 -- Options with their values: how words give a value, and which values say nothing (iptables(8), PARAMETERS;
 -- iptables-extensions(8)).
-use Rattle.std.specs.Prelude.{ℕ, ◌==◌, Bool, false, ◌||◌, ◌&&◌, not, nat_lt, List, [], ◌∷◌, length, codes, if◌then◌else◌}
-use Rattle.std.specs.Prelude.{Option, Some, None, Result, Ok, Err}
+use Rattle.std.specs.Prelude.{ℕ, ◌==◌, Bool, false, ◌||◌, ◌&&◌, not, nat_lt, List, [], ◌∷◌, length, codes, if◌then◌else◌, Option, Some, None, Result, Ok, Err}
 use Rattle.std.specs.Str.{bytes_eq}
 use Rattle.std.specs.List.{list_any}
 use Rattle.fields.specs.values.ConnectionState.{ctstate_of, state_of}
-use Rattle.fields.specs.values.FlagTest.{flag_test_of, asks_nothing}
+use Rattle.fields.specs.values.TcpFlags.{flag_test_of, asks_nothing}
 use Rattle.fields.specs.values.Icmp.{icmp_of}
 use Rattle.fields.specs.values.Interface.{interface_of}
 use Rattle.fields.specs.values.IpRange.{ip_range_of}

@@ -3,8 +3,7 @@
 use Rattle.std.specs.Prelude.{◌≡◌, ◌⊎◌, ◌↔◌, ℕ, ◌-◌, Bool, true, false, List, [], ◌∷◌, ◌++◌, length, Some, Ok, Err, codes}
 use Rattle.rules.specs.options.Options.{option_of, value_count, may_be_inverted}
 use Rattle.rules.specs.rule.Rules.{Rule, empty_rule}
-use Rattle.rules.specs.reading.Steps.{step, with_needs_met, rule_of}
-use Rattle.rules.specs.reading.OptionWords.{OptionWords, option_words_at}
+use Rattle.rules.specs.reading.Steps.{step, with_needs_met, rule_of, OptionWords, option_words_at}
 use Rattle.rules.specs.declared.reading.fault.Refusal.{Refusal}
 
 -- an option's name and its values, after a `!` or not

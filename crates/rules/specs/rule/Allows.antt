@@ -3,7 +3,7 @@ use Rattle.std.specs.Prelude.{ℕ, ◌==◌, nat_lt, Bool, true, false, ◌&&◌
 use Rattle.std.specs.List.{list_all, list_any}
 use Rattle.fields.specs.values.ConnectionState.{states_pass}
 use Rattle.fields.specs.numbers.Field.{all_fields, index, number_on}
-use Rattle.fields.specs.values.FlagTest.{flags_pass}
+use Rattle.fields.specs.values.TcpFlags.{flags_pass}
 use Rattle.fields.specs.values.Icmp.{icmp_passes}
 use Rattle.fields.specs.values.Interface.{interface_holds}
 use Rattle.fields.specs.values.IpRange.{range_has}

@@ -5,7 +5,7 @@ use Rattle.fields.specs.text.Printed.{Shown}
 use Rattle.fields.specs.values.Name.{name_of}
 use Rattle.rules.specs.options.Options.{may_be_inverted}
 use Rattle.rules.specs.options.OptionValues.{option_of_value, value_of}
-use Rattle.rules.specs.printing.Printing.{shown_value}
+use Rattle.rules.specs.Printing.{shown_value}
 use Rattle.rules.specs.rule.Needs.{unmet}
 use Rattle.rules.specs.rule.Rules.{Match, Rule, normal_form}
 use Rattle.rules.specs.declared.rule.action.Action.{Action}

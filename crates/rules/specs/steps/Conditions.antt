@@ -1,11 +1,24 @@
--- The steps by which a box is made: each condition leaves fewer numbers on its field.
-use Rattle.std.specs.Prelude.{◌≡◌, ℕ, ◌≤◌, Bool, true, ◌&&◌, List, map, slice_index, nat_le, Option, Some, None, if◌then◌else◌}
+-- The steps by which a box is made: what a set has of some numbers, and how each condition leaves fewer numbers on its field.
+use Rattle.std.specs.Prelude.{◌≡◌, ℕ, true, false, ◌≤◌, Bool, ◌&&◌, List, map, slice_index, nat_le, Option, Some, None, if◌then◌else◌}
+use Rattle.fields.specs.numbers.Spans.{SpanSet, has}
 use Rattle.fields.specs.declared.numbers.field.Field.{Field}
 use Rattle.fields.specs.numbers.Field.{all_fields, top}
-use Rattle.fields.specs.numbers.Spans.{SpanSet, has}
+use Rattle.rules.specs.rule.Crossing.{HasMember, IsParted}
+use Rattle.rules.specs.declared.rule.port_sets.Share.{Share}
 use Rattle.rules.specs.declared.boxing.condition.Condition.{Condition}
 use Rattle.rules.specs.rule.Allows.{same_field}
-use Rattle.rules.specs.boxing.Boxed.{AreSetsOf}
+use Rattle.rules.specs.Boxed.{AreSetsOf}
+use Rattle.rules.specs.declared.rule.port_sets.Share.TheVariants as share
+
+-- ---- What a set has of some numbers.
+
+-- the set's numbers are all listed, or none is, or some are and some aren't
+abbrev pub IsShareOf : SpanSet → SpanSet → Share → Type 0
+IsShareOf own listed share.All = (x : ℕ) → HasMember own x → has listed.intervals x ≡ true
+IsShareOf own listed share.Nothing = (x : ℕ) → HasMember own x → has listed.intervals x ≡ false
+IsShareOf own listed share.Part = IsParted own listed
+
+-- ---- The steps by which a box is made: each condition leaves fewer numbers on its field.
 
 -- a condition on the field, if there is one, has just the numbers that pass the test
 abbrev pub Asks : Option Field → (ℕ → Bool) → Option Condition → Type 0

@@ -1,15 +1,19 @@
--- How the code's values stand for those of the definitions.
-use Rattle.std.specs.Prelude.{ℕ, List, map, Result}
+-- How the code's values stand for those of the definitions, and how what a rule holds is kept.
+use Rattle.std.specs.Prelude.{ℕ, List, map, Result, Bool, true, false}
+use Rattle.fields.specs.text.WordSlice.{words_in}
+use Rattle.fields.specs.declared.text.word_slice.WordSlice.{WordSlice}
 use Rattle.rules.specs.Sequence.{Gives}
 use Rattle.rules.specs.declared.reading.fault.Refusal.{Refusal}
 use Rattle.rules.specs.declared.reading.fault.RuleFault.{RuleFault}
-use Rattle.fields.specs.text.WordSlice.{words_in}
-use Rattle.fields.specs.declared.text.word_slice.WordSlice.{WordSlice}
-use Rattle.rules.specs.rule.Rules as rules
-use Rattle.rules.specs.reading.OptionWords as words
 use Rattle.rules.specs.declared.rule.spec.Match.{Match}
 use Rattle.rules.specs.declared.rule.spec.RuleSpec.{RuleSpec}
 use Rattle.rules.specs.declared.reading.option_words.OptionWords.{OptionWords}
+use Rattle.rules.specs.declared.rule.kept.Owner.{Owner}
+use Rattle.rules.specs.rule.Rules as rules
+use Rattle.rules.specs.reading.Steps as words
+use Rattle.rules.specs.declared.rule.kept.Owner.TheVariants as owner
+
+-- ---- How the code's values stand for those of the definitions.
 
 -- a match as the definitions have it
 abbrev pub view_match : Match → rules.Match
@@ -36,3 +40,15 @@ Lent = OptionWords × WordSlice
 -- an option and the words after it are what the definition gives
 abbrev pub OptionWordsGive : Result Lent RuleFault → Result (words.OptionWords × List (List ℕ)) Refusal → Type 0
 OptionWordsGive r given = Gives (λ (x : Lent). (view_option_words x.0, words_in x.1)) r given
+
+-- ---- How what a rule holds is kept: with its copies or by itself.
+
+-- what is held
+abbrev pub held : Owner → RuleSpec
+held (owner.Shared spec) = spec.value
+held (owner.Own spec) = spec.value
+
+-- copies of the rule may hold it too
+abbrev pub is_shared : Owner → Bool
+is_shared (owner.Shared spec) = true
+is_shared (owner.Own spec) = false

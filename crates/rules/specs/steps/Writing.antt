@@ -1,7 +1,7 @@
 -- A rule's text part by part, as it is written.
 use Rattle.std.specs.Prelude.{ℕ, Bool, nat_lt, List, [], ◌++◌, flat_map, Option, codes}
 use Rattle.fields.specs.values.ConnectionState.{states_text}
-use Rattle.fields.specs.values.FlagTest.{flag_test_text}
+use Rattle.fields.specs.values.TcpFlags.{flag_test_text}
 use Rattle.fields.specs.values.Icmp.{icmp_text}
 use Rattle.fields.specs.values.IpRange.{ip_range_text}
 use Rattle.fields.specs.values.LogLevel.{log_level_text}
@@ -17,7 +17,7 @@ use Rattle.rules.specs.options.Matches.{kind_name}
 use Rattle.rules.specs.options.Options.{value_count}
 use Rattle.rules.specs.options.OptionValues.{option_of_value}
 use Rattle.rules.specs.rule.Rules.{Match}
-use Rattle.rules.specs.printing.Printing.{shown_option_value, shown_action}
+use Rattle.rules.specs.Printing.{shown_option_value, shown_action}
 use Rattle.rules.specs.declared.rule.action.Action.{Action}
 use Rattle.rules.specs.declared.options.match_kind.MatchKind.{MatchKind}
 use Rattle.rules.specs.declared.options.option_value.OptionValue.{OptionValue}

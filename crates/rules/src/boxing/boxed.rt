@@ -4,7 +4,7 @@ ghost use Rattle.std.specs.List.{list_all};
 ghost use Rattle.fields.specs.numbers.Field.{top};
 ghost use Rattle.fields.specs.numbers.Spans.{SpanSet, has};
 ghost use Rattle.rules.specs.rule.Allows.{option_value_allows, match_allows, fragment_allows};
-ghost use Rattle.rules.specs.boxing.Boxed.{IsBox, IsBoxOf, set_on};
+ghost use Rattle.rules.specs.Boxed.{IsBox, IsBoxOf, set_on};
 ghost use Rattle.rules.specs.steps.Conditions.{HasAllNumbers, Narrows, condition_allows};
 ghost use Rattle.rules.specs.steps.Views.{view_match, view_matches};
 
@@ -30,7 +30,7 @@ pub struct Boxed {
 impl Model for Boxed {
     ghost use Rattle.std.specs.Prelude.{List};
     ghost use Rattle.fields.specs.numbers.Spans.{SpanSet};
-    ghost use Rattle.rules.specs.boxing.Boxed.{IsBox};
+    ghost use Rattle.rules.specs.Boxed.{IsBox};
 
     ghost Value = { List SpanSet };
 

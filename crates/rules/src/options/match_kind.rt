@@ -27,7 +27,7 @@ pub(crate) struct MatchRow {
 }
 
 impl MatchKind {
-    ghost use Rattle.rules.specs.steps.MatchRows.{IsMatchRow};
+    ghost use Rattle.rules.specs.steps.OptionRows.{IsMatchRow};
 
     // Each match.
     pub(crate) const ALL: [MatchKind; 9] = [

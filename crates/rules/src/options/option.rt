@@ -3,7 +3,7 @@
 ghost use Rattle.std.specs.Prelude.{◌≡◌, Option, Some, None};
 ghost use Rattle.std.specs.List.{list_any};
 ghost use Rattle.std.specs.Str.{bytes_eq};
-ghost use Rattle.rules.specs.steps.OptionNames.{names_now};
+ghost use Rattle.rules.specs.steps.OptionRows.{names_now};
 ghost use Rattle.rules.specs.options.Options.{option_of, spells, is_one_of, is_match_of, kind_has};
 
 use crate::options::match_kind::MatchKind;

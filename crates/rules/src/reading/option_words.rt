@@ -1,7 +1,7 @@
 //! An option as words give it: an optional `!`, a spelling of the option, its values.
 ghost use Rattle.std.specs.Prelude.{◌≡◌, ◌≤◌, ◌<◌, ◌+◌, ◌-◌, Option, Some, None, List, length, IfOk};
 ghost use Rattle.fields.specs.text.WordSlice.{words_in};
-ghost use Rattle.rules.specs.reading.OptionWords.{with_values, inverted_words, after_bang, plain_words, option_words_at};
+ghost use Rattle.rules.specs.reading.Steps.{with_values, inverted_words, after_bang, plain_words, option_words_at};
 ghost use Rattle.rules.specs.steps.Views.{OptionWordsGive};
 
 use crate::options::option::Opt;
@@ -97,7 +97,7 @@ fn plain_words<'a>(
 }
 
 // The option at the front of the words, and the words after it; `end` is the place after the last word of the line.
-#[tactic(auto, unfolding(crate::specs::reading::OptionWords::option_words_at))]
+#[tactic(auto, unfolding(crate::specs::reading::Steps::option_words_at))]
 pub(crate) fn option_words_at<'a>(
     end: usize,
     words: WordSlice<'a>,

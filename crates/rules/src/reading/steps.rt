@@ -4,11 +4,9 @@ ghost use Rattle.std.specs.List.{list_any};
 ghost use Rattle.rules.specs.rule.Actions.{action_has};
 ghost use Rattle.rules.specs.Sequence.{Gives, RefusesFirst, or_refused};
 ghost use Rattle.rules.specs.options.Matches.{kind_of};
-ghost use Rattle.rules.specs.steps.Places.{rank};
+ghost use Rattle.rules.specs.steps.OptionRows.{rank};
 ghost use Rattle.rules.specs.options.OptionValues.{has_protocol};
-ghost use Rattle.rules.specs.reading.Steps.{is_given, insert_by_place, with_option, with_match, last_with, implied_match};
-ghost use Rattle.rules.specs.reading.Steps.{is_implied_option, match_for, with_option_at, has_goto, has_jump, with_jump};
-ghost use Rattle.rules.specs.reading.Steps.{with_goto, match_step, step};
+ghost use Rattle.rules.specs.reading.Steps.{is_given, insert_by_place, with_option, with_match, last_with, implied_match, is_implied_option, match_for, with_option_at, has_goto, has_jump, with_jump, with_goto, match_step, step};
 ghost use Rattle.rules.specs.rule.Needs.{is_met, is_met_for};
 ghost use Rattle.rules.specs.steps.Views.{view_matches, view_spec, view_option_words};
 
@@ -46,7 +44,7 @@ fn rank(option_values: &[OptionValue], slot: u8) -> usize
 }
 
 // Puts an option where it belongs among the others.
-#[tactic(auto, using(crate::proofs::laws::reading::PlaceLaws::inserted_by_place))]
+#[tactic(auto, using(crate::proofs::laws::reading::StepLaws::inserted_by_place))]
 fn place(
     option_values: &mut Vec<OptionValue>,
     slot: u8,

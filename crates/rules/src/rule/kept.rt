@@ -46,8 +46,7 @@ pub(crate) struct Kept {
 impl Model for Kept {
     ghost use Rattle.rules.specs.rule.Actions.{leads_to_chain};
     ghost use Rattle.rules.specs.rule.Rules.{Rule};
-    ghost use Rattle.rules.specs.steps.Keeping.{held, is_shared};
-    ghost use Rattle.rules.specs.steps.Views.{view_spec};
+    ghost use Rattle.rules.specs.steps.Views.{held, is_shared, view_spec};
     ghost use Rattle.std.specs.Prelude.{◌≡◌, false, IsTrue};
 
     ghost Value = { Rule };

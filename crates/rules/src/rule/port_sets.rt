@@ -4,10 +4,9 @@ ghost use Rattle.std.specs.List.{list_all};
 ghost use Rattle.fields.specs.numbers.Field.{top};
 ghost use Rattle.fields.specs.numbers.Spans.{SpanSet, has};
 ghost use Rattle.fields.specs.declared.numbers.field.Field.TheVariants.{SourcePort, DestinationPort};
-ghost use Rattle.rules.specs.rule.Crossing.{HasMember, HasPortsOf, IsListedBy, IsListedByRule, IsListedIn, SaysOf, asks_both, cross, has_either_port};
-ghost use Rattle.rules.specs.rule.Crossing.{match_crosses, option_value_crosses, parted_by};
+ghost use Rattle.rules.specs.rule.Crossing.{HasMember, HasPortsOf, IsListedBy, IsListedByRule, IsListedIn, SaysOf, asks_both, cross, has_either_port, match_crosses, option_value_crosses, parted_by};
 ghost use Rattle.rules.specs.declared.rule.port_sets.Crossing.TheVariants.{Holds};
-ghost use Rattle.rules.specs.steps.Shares.{IsShareOf};
+ghost use Rattle.rules.specs.steps.Conditions.{IsShareOf};
 ghost use Rattle.rules.specs.steps.Views.{view_match};
 
 use crate::options::option_value::OptionValue;

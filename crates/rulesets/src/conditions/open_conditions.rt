@@ -1,6 +1,6 @@
 //! The conditions of one or two dumps, and which of them are answered by `--when`.
 ghost use Rattle.std.specs.Prelude.{◌≡◌, IfOk};
-ghost use Rattle.rulesets.specs.conditions.OpenConditions.{is_open, open_among};
+ghost use Rattle.rulesets.specs.OpenConditions.{is_open, open_among};
 
 use crate::text::condition_text::condition_bytes;
 use dumps::Conditions;

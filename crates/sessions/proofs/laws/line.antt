@@ -1,5 +1,3 @@
-pub mod PlaceLaws
-pub mod ResultLaws
 pub mod OutcomeLaws
 pub mod LineLaws
 pub mod BoxLaws

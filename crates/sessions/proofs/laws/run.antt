@@ -1,10 +1,5 @@
-pub mod LeadLaws
-pub mod KeptLaws
 pub mod AcceptedLaws
 pub mod WrittenLaws
 pub mod HeadlineLaws
-pub mod SeveralLaws
 pub mod ReachedLaws
-pub mod ExecuteLaws
-pub mod EndLaws
 pub mod WholeLaws

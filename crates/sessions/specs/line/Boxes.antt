@@ -2,7 +2,7 @@
 use Rattle.std.specs.Prelude.{ℕ, ◌&&◌, Bool, true, false, List, Result, Ok, Err, if◌then◌else◌}
 use Rattle.table.specs.chains.Table.{Table}
 use Rattle.restore.specs.commands.Command.{command_puts}
-use Rattle.restore.specs.sections.Boxes.{line_puts}
+use Rattle.restore.specs.sections.Lines.{line_puts}
 use Rattle.sessions.specs.line.Fault.{Fault}
 use Rattle.sessions.specs.line.Request.{Request, Nothing, Run, Save, Open, Ask, Show, request_on}
 use Rattle.sessions.specs.line.Outcome.{Line, Mode, Outside, InRestore, AfterFault, Reply, Says, Fails, is_end, outcome}

@@ -1,15 +1,13 @@
 -- How the code's answer to a line stands for the reply that the definition gives.
 use Rattle.std.specs.Prelude.{◌≡◌, ℕ, ◌<◌, Bool, List, [], length, option_map, Option, Some, None, Result, Ok, Err}
-use Rattle.fields.specs.packet.Packet.{PacketView}
+use Rattle.fields.specs.Packet.{PacketView}
 use Rattle.table.specs.chains.Table.{Table, TableView, chain_at}
-use Rattle.table.specs.walk.Walk.{walk}
-use Rattle.table.specs.walk.Trail.{Shows}
+use Rattle.table.specs.walk.Walk.{walk, Shows}
 use Rattle.table.specs.declared.walk.trail.Trail.{Trail}
-use Rattle.restore.specs.listings.Listing.{listing, rules_listing}
+use Rattle.restore.specs.Listing.{listing, rules_listing}
 use Rattle.sessions.specs.line.Fault.{Fault}
 use Rattle.sessions.specs.line.Outcome.{Reply, Says, Fails, Mode, Outcome, outcome}
-use Rattle.sessions.specs.reply.Walked.{packet_reply}
-use Rattle.sessions.specs.reply.Lines.{lines_reply}
+use Rattle.sessions.specs.Replies.{packet_reply, lines_reply}
 use Rattle.sessions.specs.declared.reply.answer.Answer.{Answer}
 use Rattle.sessions.specs.declared.reply.answer.Answer.TheVariants as answers
 use Rattle.sessions.specs.declared.line.outcome.Outcome as made

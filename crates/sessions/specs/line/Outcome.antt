@@ -7,16 +7,14 @@ use Rattle.table.specs.edits.Edits.{step as table_step}
 use Rattle.table.specs.declared.fault.TableFault.{TableFault}
 use Rattle.table.specs.declared.fault.TableFault.TheVariants.{NoSuchChain}
 use Rattle.restore.specs.commands.Command.{Change, ListRules}
-use Rattle.restore.specs.listings.Listing.{listing, rules_listing}
+use Rattle.restore.specs.Listing.{listing, rules_listing}
 use Rattle.restore.specs.sections.Restore.{Restore, Restoring, begun_restore, ended_at, restore_line, takes_no_memory}
 use Rattle.restore.specs.sections.Section.{is_quiet, is_too_long}
 use Rattle.restore.specs.declared.fault.RestoreFault.{RestoreFault}
 use Rattle.restore.specs.declared.fault.RestoreFault.TheVariants.{Table as OfTable}
 use Rattle.sessions.specs.line.Fault.{Fault, EndWordMissing, NoMemory, fault_line, fault_status, of_line}
-use Rattle.sessions.specs.line.Opening.{Opening}
-use Rattle.sessions.specs.line.Request.{Request, Nothing, Run, Save, Open, Ask, Show, request_on}
-use Rattle.sessions.specs.reply.Walked.{packet_reply}
-use Rattle.sessions.specs.reply.Lines.{lines_reply}
+use Rattle.sessions.specs.line.Request.{Opening, Request, Nothing, Run, Save, Open, Ask, Show, request_on}
+use Rattle.sessions.specs.Replies.{packet_reply, lines_reply}
 pub use Rattle.sessions.specs.declared.line.mode.Mode.{Mode}
 pub use Rattle.sessions.specs.declared.line.mode.Mode.TheVariants.{Outside, InRestore, AfterFault}
 

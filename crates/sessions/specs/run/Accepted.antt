@@ -4,7 +4,7 @@ use Rattle.table.specs.edits.Edits.{Edit}
 use Rattle.restore.specs.commands.Command as command
 use Rattle.restore.specs.declared.restore.SectionState.{SectionState}
 use Rattle.restore.specs.declared.restore.SectionState.TheVariants.{Between, Building, Skipping}
-use Rattle.restore.specs.calls.Changes.{Change, Command, Section, edit_asked}
+use Rattle.restore.specs.Changes.{Change, Command, Section, edit_asked}
 use Rattle.restore.specs.sections.Section.{asked}
 use Rattle.sessions.specs.declared.line.fault.Fault.{Fault}
 use Rattle.sessions.specs.line.Request.{Request, Ask, Nothing, Open, Run, Save, Show, request_on}

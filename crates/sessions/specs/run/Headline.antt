@@ -1,29 +1,31 @@
--- After any list of commands and restores the chains are those that the accepted ones give by plain list edits, every chain's
--- classifier is the one built by restoring the present listing into an empty table, and every packet's verdict and trail are
+-- After any list of commands and restores, in one run or in several, the chains are those that the accepted ones give by plain list edits,
+-- every chain's classifier is the one built by restoring the present listing into an empty table, and every packet's verdict and trail are
 -- those of walking the rules in order; a refused command or transaction changes nothing.
-use Rattle.std.specs.Prelude.{◌≡◌, ◌⊎◌, ℕ, ◌+◌, List, ◌∷◌, ◌++◌, Option, Result, Ok, Err, false, IfOk, IfSome, IsFalse}
-use Rattle.fields.specs.packet.Packet.{PacketView}
+use Rattle.std.specs.Prelude.{◌≡◌, ◌⊎◌, ℕ, ◌+◌, List, ◌∷◌, ◌++◌, Option, Result, Ok, Err, false, IfOk, IfSome, IsFalse, []}
+use Rattle.fields.specs.Packet.{PacketView}
 use Rattle.fields.specs.text.Line.{lines_of}
 use Rattle.fields.specs.text.Tap.{IsBeginning}
 use Rattle.table.specs.chains.Sound.{IsSound}
 use Rattle.table.specs.chains.Table.{AreClassified, Table, TableView, empty_table}
 use Rattle.table.specs.declared.verdict.Verdict.{Verdict}
 use Rattle.table.specs.declared.walk.trail.Trail.{Trail}
-use Rattle.table.specs.walk.Trail.{Shows}
-use Rattle.table.specs.walk.Walk.{walk}
-use Rattle.restore.specs.listings.Listing.{listing}
-use Rattle.restore.specs.listings.RoundTrip.{RestoresItself}
+use Rattle.table.specs.walk.Walk.{Shows, walk}
+use Rattle.restore.specs.Listing.{listing, RestoresItself}
 use Rattle.restore.specs.sections.Restore.{restored}
+use Rattle.restore.specs.Changes.{changed_by, Change}
 use Rattle.sessions.specs.declared.line.fault.Fault.{Fault}
 use Rattle.sessions.specs.line.Fault.{fault_line}
 use Rattle.sessions.specs.line.Request.{Ask, request_on}
 use Rattle.sessions.specs.line.Outcome.{Line, Says, Fails, has_ended, outcome}
 use Rattle.sessions.specs.declared.line.mode.Mode.TheVariants.{Outside}
-use Rattle.sessions.specs.reply.Walked.{packet_reply}
+use Rattle.sessions.specs.Replies.{packet_reply}
 use Rattle.sessions.specs.run.Run.{Lead, Moment, ReadFailed, RunFault, Runs, Whole, WriteFailed}
 use Rattle.sessions.specs.run.Session.{Kind, State, finish_of, marks_of, start_of, step}
-use Rattle.restore.specs.calls.Changes.{changed_by}
 use Rattle.sessions.specs.run.Accepted.{accepted}
+
+-- ---- After any list of commands and restores the chains are those that the accepted ones give by plain list edits, every chain's
+-- classifier is the one built by restoring the present listing into an empty table, and every packet's verdict and trail are those of
+-- walking the rules in order; a refused command or transaction changes nothing.
 
 -- what a run did: the lines that it executed, what it wrote, and its answer
 pub record Done : Type 0 where
@@ -118,3 +120,51 @@ pub record RunsTo (kind : Kind) (before : Moment) (result : Result ℕ RunFault)
   pub runs : Runs (start_of kind before.table.table) (finish_of kind) lines before result after
   pub whole : IfOk result (λ status. Whole kind (marks_of lines) before status after)
   pub headline : Headline (start_of kind before.table.table) (record { lines = lines; written = runs.written; answer = result }) before.table after.table
+
+-- ---- Several runs of one session, one after another: each begins from the table that the one before left, even where that one stopped at
+-- a failed device.
+
+-- a run: its kind, and what it did
+pub record Run : Type 0 where
+  pub kind : Kind
+  pub done : Done
+
+-- how a run on a table begins
+abbrev pub beginning : Table → Run → State
+beginning t run = start_of run.kind t
+
+-- the runs lead from one table to another, each from what the one before left
+abbrev pub Follow : TableView → List Run → TableView → Type 0
+Follow old [] new = new ≡ old
+Follow old (run ∷ runs) new = (next : TableView) × Headline (beginning old.table run) run.done old next × Follow next runs new
+
+-- the changes of a run that were accepted
+abbrev pub accepted_in : Table → Run → List Change
+accepted_in t run = accepted (beginning t run) run.done.lines
+
+-- the changes of all runs that were accepted, in order
+abbrev pub accepted_by : Table → List Run → List Change
+accepted_by t [] = []
+accepted_by t (run ∷ runs) = accepted_in t run ++ accepted_by (changed_by t (accepted_in t run)) runs
+
+-- this fact holds of each run: of how it began, and of what it did
+abbrev pub OfEach : (State → Done → Type 0) → Table → List Run → Type 0
+OfEach P t [] = Unit {0}
+OfEach P t (run ∷ runs) = P (beginning t run) run.done × OfEach P (changed_by t (accepted_in t run)) runs
+
+-- what the lines of all runs left of a session's table
+pub record Headlines (old : TableView) (runs : List Run) (new : TableView) : Type 0 where
+  -- the table is the old one with the accepted changes of all runs made to it in order, as plain list edits
+  pub chains : new.table ≡ changed_by old.table (accepted_by old.table runs)
+  -- if `Stands` held of the table before, it holds now
+  pub stands : Stands old → Stands new
+  -- what the table answers of any packet is the walk through these rules in order
+  pub walks : AnswersByWalks (changed_by old.table (accepted_by old.table runs)) new
+  -- in each run, the reply to each packet that a line asked for was the walk through the table as it was then
+  pub packets : OfEach PacketsWereWalked old.table runs
+  -- in each run, what was refused changed nothing
+  pub refused : OfEach RefusedChangedNothing old.table runs
+
+-- whatever runs a session makes, together they leave what the headline says
+abbrev pub RunsLeaveWhatTheyAccept : Type 0
+RunsLeaveWhatTheyAccept = (old new : TableView) (runs : List Run) → Follow old runs new → Headlines old runs new

@@ -3,9 +3,9 @@ use Rattle.std.specs.Prelude.{ℕ, List, Option}
 use Rattle.fields.specs.declared.text.tap.Tap.{Tap}
 use Rattle.fields.specs.text.Tap.{known}
 use Rattle.table.specs.chains.Table.{TableView}
+use Rattle.sessions.specs.declared.run.console.Console.{Console}
 use Rattle.sessions.specs.run.Console.{reader, writer}
 use Rattle.sessions.specs.run.Run.{Moment}
-use Rattle.sessions.specs.declared.run.console.Console.{Console}
 use Rattle.sessions.specs.declared.run.session.Session.{Session}
 
 -- the table that a session shows

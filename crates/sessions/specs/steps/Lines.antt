@@ -1,15 +1,44 @@
--- What came of lines that were read and executed, and of the end of the input.
-use Rattle.std.specs.Prelude.{◌≡◌, ◌⊎◌, ℕ, Bool, List, [], ◌++◌, Option, Result, Ok, Err, MatchResult, IsTrue}
+-- What a request of the code asks for and what came of it, and what came of lines that were read and executed, and of the end of the input.
+use Rattle.std.specs.Prelude.{◌≡◌, ◌⊎◌, Err, ℕ, Bool, List, [], ◌++◌, Option, Result, Ok, MatchResult, IsTrue}
 use Rattle.std.specs.Io.KnownBytes.{Appends, Consumes}
+use Rattle.table.specs.chains.Table.{TableView, Table}
 use Rattle.fields.specs.declared.text.tap.Tap.{Tap}
 use Rattle.fields.specs.text.Line.{EndsAt}
 use Rattle.fields.specs.text.Tap.{Wrote, Stopped, Puts}
-use Rattle.table.specs.chains.Table.{Table}
-use Rattle.table.specs.edits.Boxes.{MakesOneBox}
-use Rattle.sessions.specs.line.Outcome.{Line, has_ended}
+use Rattle.table.specs.edits.Edits.{MakesOneBox}
+use Rattle.restore.specs.commands.Command as command
+use Rattle.sessions.specs.line.Fault.{NoMemory}
+use Rattle.sessions.specs.line.Request.{Request, Run, Save, Open, Ask, Show}
+use Rattle.sessions.specs.line.Executed.{IsOutcome}
+use Rattle.sessions.specs.line.Outcome.{Mode, Outcome, after_fault, Line, has_ended}
 use Rattle.sessions.specs.run.Session.{State, step}
 use Rattle.sessions.specs.run.Run.{AreBoxed, AreRead, Lead, makes, Moment, RunFault, Runs, WriteFailed}
 use Rattle.sessions.specs.declared.run.session.Progress.{Progress}
+use Rattle.sessions.specs.declared.line.request.Request as code
+use Rattle.sessions.specs.declared.line.request.Request.TheVariants as requests
+use Rattle.sessions.specs.declared.line.outcome.Outcome as made
+
+-- ---- What a request of the code asks for, and what came of it.
+
+-- what a request of the code asks for
+abbrev pub meaning : code.Request → Request
+meaning (requests.Run c) = Run (command.meaning c)
+meaning requests.Save = Save
+meaning (requests.Open opening) = Open opening
+meaning (requests.Ask packet) = Ask packet
+meaning (requests.Show name) = Show name.now
+
+-- memory was refused, and nothing was changed
+pub record RanOut (from : Mode) (old new : TableView) (t : made.Outcome) : Type 0 where
+  pub table : new ≡ old
+  pub mode : t.mode ≡ after_fault from
+  pub reply : t.reply ≡ Err NoMemory
+
+-- what the definition says came, or memory was refused
+abbrev pub Comes : Outcome → Mode → TableView → TableView → made.Outcome → Type 0
+Comes said mode old new t = IsOutcome said new t ⊎ RanOut mode old new t
+
+-- ---- What came of lines that were read and executed, and of the end of the input.
 
 -- the state of the definition, where this was printed
 abbrev pub state_of : Table → Progress → List ℕ → State

@@ -1,6 +1,6 @@
 //! The words that open a restore among the lines of a session: its options, and the line that ends it.
 ghost use Rattle.std.specs.Prelude.{◌≡◌, ◌≤◌, drop, length};
-ghost use Rattle.sessions.specs.line.Opening.{ended_by, is_end_word, joined, opening_of, option_of, options_of};
+ghost use Rattle.sessions.specs.line.Request.{ended_by, is_end_word, joined, opening_of, option_of, options_of};
 
 use arrayvec::ArrayVec;
 use fields::Words;

@@ -1,16 +1,15 @@
 //! What a line of a session does, by where it stands: the table after it, where the next line stands, and the answer.
 ghost use Rattle.std.specs.Prelude.{◌≡◌, ◌≤◌, ℕ, List, Ok, Err, OnOk, IsTrue, length, option_map};
 ghost use Rattle.fields.specs.text.Line.{IsHeld};
-ghost use Rattle.table.specs.edits.Boxes.{MakesBoxes, MakesOneBox};
-ghost use Rattle.restore.specs.commands.Command.{IsChange, command_puts, meaning as command_meaning};
-ghost use Rattle.restore.specs.commands.Command.{ListRules};
+ghost use Rattle.table.specs.edits.Edits.{MakesBoxes, MakesOneBox};
+ghost use Rattle.restore.specs.commands.Command.{IsChange, command_puts, meaning as command_meaning, ListRules};
 ghost use Rattle.table.specs.chains.Table.{TableView};
 ghost use Rattle.sessions.specs.line.Boxes.{asks_put, may_box};
 ghost use Rattle.sessions.specs.line.Fault.{of_line};
 ghost use Rattle.sessions.specs.line.Request.{Ask, Run, Show, request_of};
 ghost use Rattle.sessions.specs.line.Outcome.{Outside, AfterFault, InRestore, after_fault, is_end, opened, execute};
 ghost use Rattle.sessions.specs.line.Executed.{IsOutcomeOf};
-ghost use Rattle.sessions.specs.steps.Comes.{Comes, meaning};
+ghost use Rattle.sessions.specs.steps.Lines.{Comes, meaning};
 
 use crate::line::fault::Fault;
 use crate::line::mode::Mode;

@@ -3,7 +3,7 @@ ghost use Rattle.std.specs.Prelude.{◌≡◌, ◌≢◌, [], drop, length, map,
 ghost use Rattle.restore.specs.Sequence.{Gives};
 ghost use Rattle.sessions.specs.line.Fault.{is_out_of_memory};
 ghost use Rattle.sessions.specs.line.Request.{ask, opening, request_of, run, save, show};
-ghost use Rattle.sessions.specs.steps.Comes.{meaning};
+ghost use Rattle.sessions.specs.steps.Lines.{meaning};
 
 use crate::line::fault::Fault;
 use crate::line::opening::Opening;

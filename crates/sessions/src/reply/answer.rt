@@ -4,8 +4,8 @@ ghost use Rattle.fields.specs.text.Tap.{Puts};
 ghost use Rattle.sessions.specs.line.Fault.{fault_line};
 ghost use Rattle.sessions.specs.line.Outcome.{Reply, reply_text};
 ghost use Rattle.sessions.specs.line.Executed.{HasChain, IsIndex, IsReply, OnTrail, name_at};
-ghost use Rattle.sessions.specs.reply.Steps.{trail_text};
-ghost use Rattle.restore.specs.listings.Listing.{rules_listing};
+ghost use Rattle.sessions.specs.Replies.{trail_text};
+ghost use Rattle.restore.specs.Listing.{rules_listing};
 
 use crate::line::fault::Fault;
 use crate::reply::lines::write_lines;

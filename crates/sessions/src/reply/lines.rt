@@ -2,8 +2,7 @@
 ghost use Rattle.std.specs.Prelude.{◌≡◌, ◌+◌, ◌<◌, ◌∷◌, decimal, drop, false, flat_map, length};
 ghost use Rattle.fields.specs.text.Tap.{has_failed, Puts};
 ghost use Rattle.table.specs.chains.Table.{chain_at};
-ghost use Rattle.sessions.specs.reply.Lines.{digit_at, field_line, hexadecimal, lines_reply, numbers_text, piece_text, start_text};
-ghost use Rattle.sessions.specs.reply.Steps.{further_numbers};
+ghost use Rattle.sessions.specs.Replies.{digit_at, field_line, hexadecimal, lines_reply, numbers_text, piece_text, start_text, further_numbers};
 
 use classify::{Line, Piece, Row};
 use fields::{Field, Tap, WriteFailed};
@@ -162,7 +161,7 @@ fn put_lines<W: Write>(
 ///
 /// `WriteFailed` where the writer failed, now or before: it then got a beginning of the text, none where it had
 /// failed before.
-#[tactic(auto, unfolding(crate::specs::reply::Lines::lines_reply))]
+#[tactic(auto, unfolding(crate::specs::Replies::lines_reply))]
 pub fn write_lines<W: Write>(
     table: &Table,
     place: usize,

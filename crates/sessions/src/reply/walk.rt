@@ -1,12 +1,10 @@
 //! What a session prints of a packet.
 ghost use Rattle.std.specs.Prelude.{◌≡◌, false, flat_map};
-ghost use Rattle.fields.specs.packet.Packet.{PacketView as PacketValue};
+ghost use Rattle.fields.specs.Packet.{PacketView as PacketValue};
 ghost use Rattle.fields.specs.text.Tap.{has_failed, Puts};
 ghost use Rattle.table.specs.chains.Table.{chain_at};
-ghost use Rattle.table.specs.walk.Trail.{Shows};
-ghost use Rattle.table.specs.walk.Walk.{Walked, walk};
-ghost use Rattle.sessions.specs.reply.Steps.{entry_at, trail_text};
-ghost use Rattle.sessions.specs.reply.Walked.{cause_text, entry_line, packet_reply, verdict_line, walked_text};
+ghost use Rattle.table.specs.walk.Walk.{Shows, Walked, walk};
+ghost use Rattle.sessions.specs.Replies.{entry_at, trail_text, cause_text, entry_line, packet_reply, verdict_line, walked_text};
 
 use fields::{RejectType, Tap, WriteFailed};
 use itoa::Buffer;

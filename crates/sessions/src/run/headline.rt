@@ -1,6 +1,5 @@
 //! Laws of a session's table: what the calls do is their contract.
-ghost use Rattle.sessions.specs.run.Headline.{Answers};
-ghost use Rattle.sessions.specs.run.Several.{RunsLeaveWhatTheyAccept};
+ghost use Rattle.sessions.specs.run.Headline.{Answers, RunsLeaveWhatTheyAccept};
 
 use fields::Packet;
 use table::{Table, Trail, Verdict};
@@ -25,6 +24,7 @@ pub fn answers(table: &Table, packet: &Packet) -> (Verdict, Option<Trail>)
 ///
 /// With the clause `runs` of `Session::run` and `Session::restore`, which gives each run its lines, and `stands` of
 /// `Session::table`, it says what a session shows after any list of runs.
+#[tactic(auto, using(crate::proofs::laws::run::HeadlineLaws::runs_leave))]
 pub fn runs_leave_what_they_accept()
     ensures { RunsLeaveWhatTheyAccept }
 {}

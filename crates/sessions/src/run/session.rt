@@ -5,7 +5,7 @@ ghost use Rattle.fields.specs.text.Tap.{has_failed, is_late, is_unflushed, known
 ghost use Rattle.fields.specs.text.Line.{IsHeld, EndsAt, ReadsLine};
 ghost use Rattle.table.specs.chains.Table.{Table as TableOf};
 ghost use Rattle.table.specs.edits.Headline.{ChainsHaveOneListOfClassifiers};
-ghost use Rattle.table.specs.edits.Boxes.{MakesBoxes};
+ghost use Rattle.table.specs.edits.Edits.{MakesBoxes};
 ghost use Rattle.sessions.specs.line.Boxes.{may_box};
 ghost use Rattle.sessions.specs.line.Outcome.{Reply, has_ended, reply_text, status_after};
 ghost use Rattle.sessions.specs.line.Executed.{HasChain, IsReply};

@@ -1,16 +1,8 @@
-pub mod PathLaws
-pub mod StoredChainLaws
-pub mod EdgeLaws
 pub mod PlaceLaws
 pub mod StoreLaws
-pub mod KeptLaws
 pub mod CountLaws
 pub mod SoundLaws
 pub mod KeepLaws
 pub mod StepLaws
-pub mod OrderLaws
-pub mod ChainLaws
-pub mod RestLaws
 pub mod RenamedLaws
-pub mod NewLaws
 pub mod FewerLaws

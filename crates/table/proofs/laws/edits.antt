@@ -1,17 +1,9 @@
 pub mod AnswerLaws
 pub mod DeleteLaws
-pub mod DeleteAllLaws
 pub mod EditLaws
-pub mod EdgeEditLaws
-pub mod FlushLaws
 pub mod MakeLaws
-pub mod MemoryLaws
 pub mod PutLaws
 pub mod RetargetLaws
 pub mod RenameLaws
-pub mod TableLaws
 pub mod ChainRules
-pub mod MarkLaws
-pub mod FilledLaws
 pub mod MadeLaws
-pub mod BoxLaws

@@ -1,10 +1,9 @@
 -- What holds of every table (iptables(8), TARGETS); the limits on numbers of rules and chains are this project's own.
 use Rattle.std.specs.Prelude.{◌≡◌, ◌↔◌, ℕ, zero, suc, ◌≤◌, List, length, take, drop, Some, Contains, All, AllPairs, IsTrue, IsFalse}
 use Rattle.fields.specs.values.Name.{is_name}
-use Rattle.rules.specs.printing.RoundTrip.{TextReadsBack}
+use Rattle.rules.specs.Printing.{TextReadsBack}
 use Rattle.rules.specs.rule.Rules.{Rule}
-use Rattle.table.specs.chains.Table.{Chain, Table, built_in_names, names_of, is_built_in, has_chain, rules_of, user_chains, comes_before}
-use Rattle.table.specs.chains.Table.{chain_named_by}
+use Rattle.table.specs.chains.Table.{Chain, Table, built_in_names, names_of, is_built_in, has_chain, rules_of, user_chains, comes_before, chain_named_by}
 use Rattle.table.specs.edits.Edits.{asks_absent_interface, leads}
 
 -- a rule of one chain names another, by `-j` or `-g`

@@ -1,11 +1,10 @@
 -- The table `filter`: the policies of its built-in chains, and its chains with their rules (iptables(8), TABLES).
-use Rattle.std.specs.Prelude.{ℕ, Bool, false, not, List, [], ◌∷◌, map, filter, position, slice_get, slice_index_or, Option, Some, None, option_and_then}
-use Rattle.std.specs.Prelude.{codes, if◌then◌else◌}
+use Rattle.std.specs.Prelude.{ℕ, Bool, false, not, List, [], ◌∷◌, map, filter, position, slice_get, slice_index_or, Option, Some, None, option_and_then, codes, if◌then◌else◌}
 use Rattle.std.specs.List.{list_any}
 use Rattle.std.specs.Str.{bytes_eq}
 use Rattle.std.specs.Ordering.{is_lt, nat_cmp}
 use Rattle.std.specs.Cmp.Lexicographic.{slice_cmp}
-use Rattle.classify.specs.classifier.Classifier.{Classified, IsClassifierOfRules}
+use Rattle.classify.specs.Classifier.{Classified, IsClassifierOfRules}
 use Rattle.rules.specs.rule.Actions.{target_of}
 use Rattle.rules.specs.rule.Rules.{Rule}
 use Rattle.rules.specs.declared.rule.target.Target.{Target}

@@ -1,26 +1,22 @@
--- What each command does to the table, and what refuses it (iptables(8), COMMANDS).
-use Rattle.std.specs.Prelude.{◌≡◌, ℕ, zero, suc, ◌+◌, ◌-◌, ◌==◌, nat_lt, nat_le, Bool, true, false, ◌&&◌, ◌||◌, not, List, [], ◌∷◌, ◌++◌}
-use Rattle.std.specs.Prelude.{map, filter, length, position, insert, remove, slice_set, Option, Some, None, is_none, Result, Ok, Err}
-use Rattle.std.specs.Prelude.{IfErr, codes, if◌then◌else◌}
+-- What each command does to the table, what refuses it, and how many boxes of rules it makes (iptables(8), COMMANDS).
+use Rattle.std.specs.Prelude.{◌≡◌, ℕ, zero, suc, ◌+◌, ◌-◌, ◌==◌, nat_lt, nat_le, Bool, true, false, ◌&&◌, ◌||◌, not, List, [], ◌∷◌, ◌++◌, map, filter, length, position, insert, remove, slice_set, Option, Some, None, is_none, Result, Ok, Err, IfErr, codes, if◌then◌else◌, ◌⊎◌, ◌^◌, min}
 use Rattle.std.specs.Bool.{MatchBool}
 use Rattle.std.specs.List.{list_any}
 use Rattle.std.specs.Str.{bytes_eq}
 use Rattle.fields.specs.Refusals.{GivesFor}
-use Rattle.fields.specs.packet.Hook.{name as hook_name}
+use Rattle.fields.specs.Hook.{name as hook_name}
 use Rattle.fields.specs.values.Name.{is_name}
-use Rattle.fields.specs.declared.numbers.field.Field.TheVariants as field
-use Rattle.fields.specs.declared.packet.hook.Hook.TheVariants as hook
 use Rattle.rules.specs.rule.Actions.{with_chain_name}
 use Rattle.rules.specs.rule.Allows.{asks_on}
-use Rattle.rules.specs.printing.Printing.{rule_text}
+use Rattle.rules.specs.Printing.{rule_text}
 use Rattle.rules.specs.rule.Rules.{Rule}
-use Rattle.table.specs.chains.Table.{Chain, Table, TableView, Policy, Accept, Drop, built_in_names, is_built_in, empty_chain, is_named}
-use Rattle.table.specs.chains.Table.{has_chain, rules_of, user_chains, comes_before, chain_named_by, names, is_referenced}
+use Rattle.fields.specs.declared.numbers.field.Field.TheVariants as field
+use Rattle.fields.specs.declared.packet.hook.Hook.TheVariants as hook
+use Rattle.table.specs.chains.Table.{Chain, Table, TableView, Policy, Accept, Drop, built_in_names, is_built_in, empty_chain, is_named, has_chain, rules_of, user_chains, comes_before, chain_named_by, names, is_referenced}
 pub use Rattle.table.specs.declared.fault.TableFault.{TableFault}
-pub use Rattle.table.specs.declared.fault.TableFault.TheVariants.{NoSuchChain, ChainExists, BadChainName, NumberOutOfRange, NoSuchRule}
-pub use Rattle.table.specs.declared.fault.TableFault.TheVariants.{ChainNotEmpty, ChainReferenced, BuiltInChain, NotBuiltInChain, Loop}
-pub use Rattle.table.specs.declared.fault.TableFault.TheVariants.{TargetMissing, TargetBuiltIn, InterfaceNotAllowed, ChainFull}
-pub use Rattle.table.specs.declared.fault.TableFault.TheVariants.{TooManyChains, BadPolicy, NoMemory}
+pub use Rattle.table.specs.declared.fault.TableFault.TheVariants.{NoSuchChain, ChainExists, BadChainName, NumberOutOfRange, NoSuchRule, ChainNotEmpty, ChainReferenced, BuiltInChain, NotBuiltInChain, Loop, TargetMissing, TargetBuiltIn, InterfaceNotAllowed, ChainFull, TooManyChains, BadPolicy, NoMemory}
+
+-- ---- What each command does to the table, and what refuses it (iptables(8), COMMANDS).
 
 -- a command on the table; names are given as bytes, and rules are counted from 1
 pub data Edit : Type 0 where
@@ -269,3 +265,34 @@ may_grow (Rename old new) = false
 -- of any call: it answers with the step; only a command that takes memory may be refused because memory ran out
 abbrev pub IsStepOf : Edit → TableView → TableView → Result (Unit {0}) TableFault → Type 0
 IsStepOf edit old new result = MatchBool (may_grow edit) (IsStepIfRoom edit old new result) (IsStep edit old new result)
+
+-- ---- How many boxes of rules an edit makes.
+
+-- one box was made, by a count that stays at its greatest value
+abbrev pub MakesOneBox : ℕ → ℕ → Type 0
+MakesOneBox old new = new ≡ min (old + 1) (2 ^ 64 - 1)
+
+-- at most one box was made, by such a count
+abbrev pub MakesOneBoxAtMost : ℕ → ℕ → Type 0
+MakesOneBoxAtMost old new = (new ≡ old) ⊎ MakesOneBox old new
+
+-- at most one box was made if one is asked for, and else none
+abbrev pub MakesBoxes : Bool → ℕ → ℕ → Type 0
+MakesBoxes true old new = MakesOneBoxAtMost old new
+MakesBoxes false old new = new ≡ old
+
+-- the edit puts a rule into a chain, so it asks for a box
+abbrev pub puts_rule : Edit → Bool
+puts_rule (Append c r) = true
+puts_rule (Insert c n r) = true
+puts_rule (Replace c n r) = true
+puts_rule (DeleteAt c n) = false
+puts_rule (DeleteRule c r) = false
+puts_rule (Has c r) = false
+puts_rule (Flush c) = false
+puts_rule FlushAll = false
+puts_rule (NewChain c) = false
+puts_rule (DeleteChain c) = false
+puts_rule DeleteChains = false
+puts_rule (SetPolicy c text) = false
+puts_rule (Rename old new) = false

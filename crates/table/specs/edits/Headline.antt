@@ -1,8 +1,11 @@
--- What a list of edits leaves of a table.
-use Rattle.std.specs.Prelude.{◌≡◌, List, [], ◌∷◌, Some, Result, Ok, Err}
-use Rattle.classify.specs.classifier.Classifier.{Classified}
-use Rattle.table.specs.chains.Table.{Chain, Table, TableView, AreClassified}
-use Rattle.table.specs.edits.Edits.{Edit, TableFault, NoMemory, IsStepIfRoom, edited, fault_of}
+-- What a list of edits leaves of a table, and that every table can be made from the empty one by edits.
+use Rattle.std.specs.Prelude.{◌≡◌, List, [], ◌∷◌, Some, Result, Ok, Err, ℕ, ◌++◌, map, flat_map, Option, None, codes}
+use Rattle.classify.specs.Classifier.{Classified}
+use Rattle.table.specs.chains.Table.{Chain, Table, TableView, AreClassified, Policy, Accept, Drop, empty_table, policy_of}
+use Rattle.table.specs.edits.Edits.{Edit, TableFault, NoMemory, IsStepIfRoom, edited, fault_of, Append, NewChain, SetPolicy, step}
+use Rattle.table.specs.chains.Sound.{IsSound}
+
+-- ---- What a list of edits leaves of a table.
 
 -- an edit that was called for, and the answer
 pub record Call : Type 0 where
@@ -45,3 +48,36 @@ ChainsHaveOneListOfClassifiers =
 -- no definition of a command refuses it for lack of memory; a call does so only where nothing else refuses
 abbrev pub OutOfMemoryIsNoCause : Type 0
 OutOfMemoryIsNoCause = (edit : Edit) (t : Table) → fault_of edit t ≡ Some NoMemory → ⊥
+
+-- ---- Every table can be made from the empty one by edits.
+
+-- the word for a policy
+abbrev pub policy_text : Policy → List ℕ
+policy_text Accept = codes "ACCEPT"
+policy_text Drop = codes "DROP"
+
+-- edits one after another, up to the first refusal
+abbrev pub steps : List Edit → Table → Result Table TableFault
+steps [] t = Ok t
+steps (edit ∷ edits) t = elim (step edit t) [ Ok next ↦ steps edits next | Err f ↦ Err f ]
+
+-- a policy for a built-in chain, `-N` for a user chain
+abbrev pub making_with : List ℕ → Option Policy → Edit
+making_with name (Some p) = SetPolicy name (policy_text p)
+making_with name None = NewChain name
+
+-- the edit that makes a chain of a table
+abbrev pub making : Table → Chain → Edit
+making t c = making_with c.name (policy_of t c.name)
+
+-- the edits that append the rules of a chain
+abbrev pub appends : Chain → List Edit
+appends c = map (Append c.name) c.rules
+
+-- the edits that make a table: its chains, and then their rules chain by chain
+abbrev pub makings : Table → List Edit
+makings t = map (making t) t.chains ++ flat_map appends t.chains
+
+-- every table is made from the empty one by these edits, and none is refused
+abbrev pub TablesAreMadeByEdits : Type 0
+TablesAreMadeByEdits = (t : Table) → IsSound t → steps (makings t) empty_table ≡ Ok t

@@ -1,16 +1,18 @@
--- How the chains under their keys, and the index of the keys, stand for the chains of the table.
-use Rattle.std.specs.Prelude.{◌≡◌, ℕ, ◌+◌, ◌<◌, ◌≤◌, List, [], ◌∷◌, length, map, slice_index_or, slice_index, Option, Some, None}
-use Rattle.std.specs.Prelude.{IsSome, unwrap_or, All, Bool, count_by}
+-- How the chains under their keys stand for the chains of the table, and what a rule that is put and a rename leave of them.
+use Rattle.std.specs.Prelude.{◌≡◌, ℕ, ◌+◌, ◌<◌, ◌≤◌, List, [], ◌∷◌, length, map, slice_index_or, slice_index, Option, Some, None, IsSome, unwrap_or, All, Bool, count_by, position, true, false, IsFalse, ◌⊎◌, ◌++◌, insert, slice_set, Result, Ok, Err, ◌-◌, nat_lt, remove, if◌then◌else◌, IsTrue}
 use Rattle.fields.specs.declared.packet.hook.Hook.{Hook}
 use Rattle.fields.specs.declared.packet.hook.Hook.TheVariants.{Input, Forward, Output}
-use Rattle.classify.specs.classifier.Classifier.{Classified}
-use Rattle.std.specs.Prelude.{position, true, false, IsFalse}
-use Rattle.rules.specs.rule.Actions.{target_of}
+use Rattle.classify.specs.Classifier.{Classified}
+use Rattle.rules.specs.rule.Actions.{target_of, names_chain, with_chain_name}
+use Rattle.rules.specs.rule.Rules.{Rule}
 use Rattle.table.specs.chains.Sound.{IsSound}
 use Rattle.table.specs.chains.Table.{Chain, Table, TableView, Policy, chain_named_by, is_named, comes_before}
-use Rattle.table.specs.steps.StoredChains.{StoredChain, rules_in, flow_of, leads_to, is_key, ones, IsClassified}
+use Rattle.table.specs.steps.StoredChains.{StoredChain, rules_in, flow_of, leads_to, is_key, ones, IsClassified, key_in}
 use Rattle.table.specs.declared.chain.entry.Entry.{Entry}
 use Rattle.table.specs.declared.parts.Parts.{Parts}
+use Rattle.table.specs.edits.Edits.{Cause, TableFault, NoMemory, changed, first_fault, full, rule_causes}
+
+-- ---- How the chains under their keys, and the index of the keys, stand for the chains of the table.
 
 -- no chain
 abbrev pub blank : StoredChain
@@ -163,3 +165,50 @@ pub record IsUnmarked (order : List ℕ) (seen : List Bool) : Type 0 where
 pub record IsWhole (parts : Parts) (seen : List Bool) : Type 0 where
   pub kept : AreKept parts
   pub unmarked : IsUnmarked parts.order.items seen
+
+-- ---- What a call that puts a rule into a chain answers.
+
+-- the causes are tested in order, and memory last: where none applies the rules of the chain are edited, else nothing is changed
+abbrev pub AnswersCauses : List Cause → (List Rule → List Rule) → Parts → Parts → ℕ → Result (Unit {0}) TableFault → Type 0
+AnswersCauses causes edit old new place (Ok u) =
+    (first_fault causes ≡ None) × (table_of new ≡ changed edit (name_in old place) (table_of old))
+AnswersCauses causes edit old new place (Err f) =
+    ((first_fault causes ≡ Some f) ⊎ ((first_fault causes ≡ None) × (f ≡ NoMemory))) × (view_of new ≡ view_of old)
+
+-- the answer of a call that inserts a rule at a place
+abbrev pub IsPutIn : Parts → Parts → ℕ → ℕ → Rule → Result (Unit {0}) TableFault → Type 0
+IsPutIn old new place at rule result =
+    AnswersCauses (rule_causes (table_of old) (name_in old place) rule ++ full (table_of old) (name_in old place) ∷ [])
+    (λ rules. insert rules at rule) old new place result
+
+-- the answer of a call that replaces a rule
+abbrev pub IsPutOver : Parts → Parts → ℕ → ℕ → Rule → Result (Unit {0}) TableFault → Type 0
+IsPutOver old new place at rule result =
+    AnswersCauses (rule_causes (table_of old) (name_in old place) rule) (λ rules. slice_set rules at rule) old new place result
+
+-- ---- What a rename leaves of the chains as the code keeps them.
+
+-- a rule that leads to a chain names one
+abbrev pub NameChains : List Entry → Type 0
+NameChains entries = All (λ (e : Entry). IsSome (key_in e.flow) → IsTrue (names_chain (target_of e.rule))) entries
+
+-- the rule, with the name in it if it leads to the chain under the key
+abbrev pub retargeted : ℕ → List ℕ → Entry → Entry
+retargeted key name entry =
+    record { rule = if leads_to key entry.flow then with_chain_name name entry.rule else entry.rule; flow = entry.flow }
+
+-- the first chains of the index have the name in their rules that lead to the chain under the key, and all else is as before
+pub record AreRetargeted (old new : List (Option StoredChain)) (order : List ℕ) (key : ℕ) (name : List ℕ) (upto : ℕ) : Type 0 where
+  pub present : (k : ℕ) → IsSome (slot_at old k) → IsSome (slot_at new k)
+  pub no_more : (k : ℕ) → IsSome (slot_at new k) → IsSome (slot_at old k)
+  pub named : (k : ℕ) → (stored_at new k).name ≡ (stored_at old k).name
+  pub references : (k : ℕ) → (stored_at new k).references ≡ (stored_at old k).references
+  pub classified : (j : ℕ) → j < length order → IsClassified (stored_at new (slice_index order j))
+  pub done : (j : ℕ) → j < upto → j < length order
+      → (stored_at new (slice_index order j)).entries ≡ map (retargeted key name) (stored_at old (slice_index order j)).entries
+  pub rest : (j : ℕ) → upto ≤ j → j < length order
+      → (stored_at new (slice_index order j)).entries ≡ (stored_at old (slice_index order j)).entries
+
+-- the index with the key at one place moved to another, both counted before the move
+abbrev pub moved_key : List ℕ → ℕ → ℕ → List ℕ
+moved_key order place to = insert (remove order place) (if nat_lt place to then to - 1 else to) (slice_index order place)

@@ -1,15 +1,19 @@
--- How the walk over keys stands for the walk over names.
-use Rattle.std.specs.Prelude.{◌≡◌, ℕ, ◌≤◌, List, [], ◌∷◌, length, map, reverse, All}
-use Rattle.std.specs.Prelude.{Option, Some, unwrap_or}
+-- How the walk over keys stands for the walk over names, and the candidates that it keeps.
+use Rattle.std.specs.Prelude.{◌≡◌, ℕ, ◌≤◌, List, [], ◌∷◌, length, map, reverse, All, Option, Some, unwrap_or, IfSome}
+use Rattle.rules.specs.rule.Allows.{allows_each}
 use Rattle.table.specs.steps.Kept.{IsIn, stored_at, name_at, listed}
-use Rattle.table.specs.steps.StoredChains.{StoredChain}
+use Rattle.table.specs.steps.StoredChains.{StoredChain, rules_in}
 use Rattle.table.specs.walk.Walk.{Rest, Entry, Hit, Next, Ends, GoesOn, next_of, Walked, whole, walk_within, too_long}
 use Rattle.table.specs.declared.chain.entry.Flow.{Flow}
-use Rattle.table.specs.declared.chain.entry.Flow.TheVariants as flow
 use Rattle.table.specs.declared.verdict.Verdict.{Verdict}
 use Rattle.table.specs.declared.walk.Pending.{Pending}
 use Rattle.table.specs.declared.walk.StepResult.{StepResult}
+use Rattle.table.specs.declared.walk.found.Found.{Found}
+use Rattle.table.specs.declared.walk.found.FoundChains.{FoundChains}
+use Rattle.table.specs.declared.chain.entry.Flow.TheVariants as flow
 use Rattle.table.specs.declared.walk.StepResult.TheVariants as step_result
+
+-- ---- How the walk over keys stands for the walk over names.
 
 -- what is left of the chain under a key
 abbrev pub rest_of : List (Option StoredChain) → Pending → Rest
@@ -81,3 +85,15 @@ Follows slots left step_result.StackFull at stack = Unit {0}
 abbrev pub walk_at : ℕ → List (Option StoredChain) → List ℕ → ℕ → Verdict → List ℕ → Walked
 walk_at room slots order hook policy values =
     unwrap_or (walk_within room (listed slots order) policy values (whole (name_at slots order hook) ∷ [])) too_long
+
+-- ---- The candidates that a walk keeps.
+
+-- the candidates are, of the rules of the chain under their key, those that allow the packet's numbers
+abbrev pub IsFound : List (Option StoredChain) → List ℕ → Found → Type 0
+IsFound slots values found = found.candidates ≡ map (allows_each values) (rules_in (stored_at slots found.chain))
+
+-- so are all that are kept, each for its own chain
+pub record AreFound (slots : List (Option StoredChain)) (values : List ℕ) (found : FoundChains) : Type 0 where
+  pub first : IsFound slots values found.first
+  pub odd : IfSome found.odd (IsFound slots values)
+  pub even : IfSome found.even (IsFound slots values)

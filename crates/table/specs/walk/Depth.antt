@@ -1,7 +1,7 @@
 -- How deep a walk goes: how many chains wait on its stack at most.
 use Rattle.std.specs.Prelude.{ℕ, zero, suc, ◌-◌, ◌≤◌, max, List, [], ◌∷◌, length, Some, None}
-use Rattle.fields.specs.packet.Hook.{name as hook_name}
-use Rattle.fields.specs.packet.Packet.{PacketView as Packet}
+use Rattle.fields.specs.Hook.{name as hook_name}
+use Rattle.fields.specs.Packet.{PacketView as Packet}
 use Rattle.table.specs.chains.Table.{Chain, Table, user_chains}
 use Rattle.table.specs.chains.Sound.{IsSound}
 use Rattle.table.specs.walk.Walk.{Rest, Next, Ends, GoesOn, first_hit, next_of, whole}

@@ -1,17 +1,21 @@
--- The walk of a packet through the table (iptables(8), TARGETS and PARAMETERS, -g).
-use Rattle.std.specs.Prelude.{ℕ, zero, suc, ◌+◌, Bool, true, false, List, [], ◌∷◌, slice_index_or, Option, Some, None, option_map}
-use Rattle.std.specs.Prelude.{unwrap_or}
-use Rattle.classify.specs.search.NextMatch.{next_match}
+-- The walk of a packet through the table, and its trail as the code shows it (iptables(8), TARGETS and PARAMETERS, -g).
+use Rattle.std.specs.Prelude.{ℕ, zero, suc, ◌+◌, Bool, true, false, List, [], ◌∷◌, slice_index_or, Option, Some, None, option_map, unwrap_or, ◌≡◌, map}
+use Rattle.std.specs.List.{position}
+use Rattle.classify.specs.NextMatch.{next_match}
 use Rattle.rules.specs.rule.Allows.{matches}
-use Rattle.fields.specs.packet.Hook.{name as hook_name}
-use Rattle.fields.specs.packet.Packet.{PacketView as Packet}
+use Rattle.fields.specs.Hook.{name as hook_name}
+use Rattle.fields.specs.Packet.{PacketView as Packet}
 use Rattle.rules.specs.rule.Actions.{target_of}
 use Rattle.rules.specs.rule.Rules.{empty_rule}
 use Rattle.rules.specs.declared.rule.target.Target.{Target}
 use Rattle.rules.specs.declared.rule.target.Target.TheVariants as target
-use Rattle.table.specs.chains.Table.{Chain, Table, Policy, Accept, Drop, rules_of, policy_of}
+use Rattle.table.specs.chains.Table.{Chain, Table, Policy, Accept, Drop, rules_of, policy_of, is_named}
 use Rattle.table.specs.declared.verdict.Verdict.{Verdict}
+use Rattle.table.specs.declared.walk.trail.Step.{Step}
+use Rattle.table.specs.declared.walk.trail.Trail.{Trail}
 use Rattle.table.specs.declared.verdict.Verdict.TheVariants as verdict
+
+-- ---- The walk of a packet through the table (iptables(8), TARGETS and PARAMETERS, -g).
 
 -- what is left of a chain: its name, and how many of its rules were passed
 pub record Rest : Type 0 where
@@ -128,3 +132,15 @@ walk_to room t packet =
 -- and has no trail
 abbrev pub walk : Table → Packet → Walked
 walk t packet = walk_to 65536 t packet
+
+-- ---- The trail of a walk, as the code shows it.
+
+-- an entry of the trail, with its chain given by its place in the order of a listing, counted from 0
+abbrev pub shown : List Chain → Entry → Option Step
+shown chains entry = option_map (λ place. record { chain = place; number = entry.number }) (position (is_named entry.chain) chains)
+
+-- the code's trail has the entries and the verdict of the walk, and says the same of whether the policy decided
+pub record Shows (chains : List Chain) (walked : Walked) (trail : Trail) : Type 0 where
+  pub steps : map (shown chains) walked.trail ≡ map Some trail.steps.items
+  pub verdict : trail.verdict ≡ walked.verdict
+  pub by_policy : trail.by_policy ≡ walked.by_policy

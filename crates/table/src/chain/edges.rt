@@ -1,7 +1,7 @@
 //! The edges of a chain: the chains that its rules lead to, each once, with how many of its rules do.
 ghost use Rattle.std.specs.Prelude.{◌≡◌, ◌≢◌, ◌<◌, ◌+◌, ◌^◌, ℕ, length, slice_index, IfSome, IsSome, MatchOption, OnOk};
 ghost use Rattle.std.specs.Vec.{vec_len, vec_capacity};
-ghost use Rattle.table.specs.steps.Edges.{AreDistinct, CountsFewer, CountsMore, counted, ends};
+ghost use Rattle.table.specs.steps.StoredChains.{AreDistinct, CountsFewer, CountsMore, counted, ends};
 
 use std::alloc::AllocError;
 

@@ -2,7 +2,7 @@
 //! leads to.
 ghost use Rattle.std.specs.Prelude.{◌≡◌, IsTrue, map};
 ghost use Rattle.rules.specs.rule.Actions.{names_chain, target_of};
-ghost use Rattle.table.specs.steps.Renames.{NameChains, retargeted};
+ghost use Rattle.table.specs.steps.Kept.{NameChains, retargeted};
 ghost use Rattle.table.specs.steps.StoredChains.{leads_to};
 
 use crate::verdict::Verdict;

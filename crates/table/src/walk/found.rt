@@ -2,9 +2,9 @@
 //! once for all rules that the walk goes on from in a chain. Most walks come back to the chain in which they begin, and from a
 //! chain to the one that they came from.
 ghost use Rattle.std.specs.Prelude.{◌≡◌, ◌<◌, ◌+◌, ◌^◌, length, IfSome, IsSome};
-ghost use Rattle.classify.specs.search.NextMatch.{next_match};
+ghost use Rattle.classify.specs.NextMatch.{next_match};
 ghost use Rattle.rules.specs.rule.Allows.{matches};
-ghost use Rattle.table.specs.steps.Found.{AreFound, IsFound};
+ghost use Rattle.table.specs.steps.Walking.{AreFound, IsFound};
 ghost use Rattle.table.specs.steps.Kept.{slot_at, stored_at};
 ghost use Rattle.table.specs.steps.StoredChains.{rules_in};
 

@@ -2,7 +2,7 @@
 ghost use Rattle.std.specs.Prelude.{◌≡◌, ◌<◌, ◌≤◌, length, false, true, IfNone, IfOk, IfSome, Some};
 ghost use Rattle.table.specs.steps.Kept.{AreStored, IsIn, listed};
 ghost use Rattle.table.specs.steps.Walking.{entry_before, walk_at};
-ghost use Rattle.table.specs.walk.Trail.{Shows, shown};
+ghost use Rattle.table.specs.walk.Walk.{Shows, shown};
 
 use crate::parts::Parts;
 use crate::verdict::Verdict;

@@ -1,7 +1,7 @@
 use Rattle.std.proofs.Common.{◌≡◌, ◌+◌, ◌*◌, ◌/◌, ◌%◌, ◌^◌, ◌∙◌, sym, ap, arith, get_or, false, List, ℕ}
 use Rattle.bits.specs.steps.Held.{words_in}
 use Rattle.bits.specs.steps.Packing.{all_bits, low_bit}
-use Rattle.bits.proofs.laws.GetLaws.{all_bit_at}
+use Rattle.bits.proofs.laws.BitLaws.{all_bit_at}
 use Rattle.bits.proofs.each_row.bit_in.Goals as goal
 
 pub returns : goal.returns

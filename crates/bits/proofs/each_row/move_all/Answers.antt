@@ -1,8 +1,7 @@
 use Rattle.std.proofs.Common.{◌≡◌, ◌<◌, arith, length, rules, sym, vec_len, subst, ℕ}
 use Rattle.std.proofs.lemmas.List.{get_or_read}
 use Rattle.bits.specs.steps.Packing.{all_bits}
-use Rattle.bits.specs.steps.Held.{words_in}
-use Rattle.bits.specs.steps.RowMoves.{Makes}
+use Rattle.bits.specs.steps.Held.{words_in, Makes}
 use Rattle.bits.specs.steps.Summaries.{IsSummaryOf}
 use Rattle.bits.proofs.laws.SlotWordsLaws.{slot_changed}
 use Rattle.bits.proofs.each_row.move_all.Goals as goal

@@ -1,5 +1,5 @@
 use Rattle.std.proofs.Common.{length}
-use Rattle.bits.specs.steps.RowMoves.{Makes}
+use Rattle.bits.specs.steps.Held.{Makes}
 use Rattle.bits.proofs.laws.SlotWordsLaws.{ChangedAndSummed}
 use Rattle.bits.proofs.each_row.move_all.Given as goal
 

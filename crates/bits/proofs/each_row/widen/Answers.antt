@@ -1,5 +1,5 @@
 use Rattle.std.proofs.Common.{◌≡◌, ◌*◌, ◌++◌, ◌∙◌, sym, ap, arith, length, rules, vec_len, subst, List, ℕ}
-use Rattle.bits.proofs.laws.WidenLaws.{Widened, widened_first, widened_step}
+use Rattle.bits.proofs.laws.HeldLaws.{Widened, widened_first, widened_step}
 use Rattle.bits.proofs.each_row.widen.Goals as goal
 
 pub loop-slot-init : goal.loop-slot-init

@@ -1,4 +1,4 @@
-use Rattle.bits.proofs.laws.WidenLaws.{Widened}
+use Rattle.bits.proofs.laws.HeldLaws.{Widened}
 use Rattle.bits.proofs.each_row.widen.Given as goal
 
 abbrev pub invariant-loop-slot : goal.invariant-loop-slot

@@ -1,6 +1,6 @@
 use Rattle.std.proofs.Common.{◌≡◌, ℕ, ◌+◌, ◌-◌, ◌∙◌, ◌++◌, ◌∷◌, [], List, length, take, drop, ap, subst, rules, slice_set}
-use Rattle.bits.proofs.laws.MoveLaws.{filled_one}
-use Rattle.bits.proofs.laws.SlotRowLaws.{all_written}
+use Rattle.bits.proofs.laws.BlockEditLaws.{filled_one}
+use Rattle.bits.proofs.laws.HeldLaws.{all_written}
 use Rattle.bits.proofs.moves.insert_at.Goals as goal
 
 pub returns-clause-ok : goal.returns-clause-ok

@@ -1,7 +1,7 @@
 use Rattle.std.proofs.Common.{◌≡◌, ℕ, ◌+◌, ◌-◌, ◌∙◌, ◌++◌, ◌∷◌, [], List, length, take, drop, ap, subst, refl, slice_set}
 use Rattle.std.proofs.lemmas.List.{append_assoc}
-use Rattle.bits.proofs.laws.MoveLaws.{filled_pair}
-use Rattle.bits.proofs.laws.SlotRowLaws.{all_written}
+use Rattle.bits.proofs.laws.BlockEditLaws.{filled_pair}
+use Rattle.bits.proofs.laws.HeldLaws.{all_written}
 use Rattle.bits.proofs.moves.insert_pair_at.Goals as goal
 
 pub returns-clause-ok : goal.returns-clause-ok

@@ -1,5 +1,5 @@
 use Rattle.std.proofs.Common.{arith, ◌-◌}
-use Rattle.bits.proofs.laws.MoveLaws.{raised_one, raised_low, raised_high}
+use Rattle.bits.proofs.laws.BlockEditLaws.{raised_one, raised_low, raised_high}
 use Rattle.bits.proofs.moves.raise.Goals as goal
 
 pub loop-end-preserved : goal.loop-end-preserved

@@ -1,4 +1,4 @@
-use Rattle.bits.specs.steps.Moves.{Raised}
+use Rattle.bits.specs.steps.Blocks.{Raised}
 use Rattle.bits.proofs.moves.raise.Given as goal
 
 abbrev pub invariant-loop-end : goal.invariant-loop-end

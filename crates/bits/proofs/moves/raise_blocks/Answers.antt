@@ -1,5 +1,5 @@
 use Rattle.std.proofs.Common.{arith, ◌-◌}
-use Rattle.bits.proofs.laws.MoveLaws.{raised_start, raised_block}
+use Rattle.bits.proofs.laws.BlockEditLaws.{raised_start, raised_block}
 use Rattle.bits.proofs.moves.raise_blocks.Goals as goal
 
 pub loop-end-init : goal.loop-end-init

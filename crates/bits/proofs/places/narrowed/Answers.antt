@@ -1,5 +1,5 @@
 use Rattle.std.proofs.Common.{arith, ◌/◌}
-use Rattle.bits.proofs.laws.AroundLaws.{all_around, four_ways}
+use Rattle.bits.proofs.laws.BlockPlaceLaws.{all_around, four_ways}
 use Rattle.bits.proofs.places.narrowed.Goals as goal
 
 pub loop-width-init : goal.loop-width-init

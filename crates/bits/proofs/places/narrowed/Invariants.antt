@@ -1,5 +1,5 @@
 use Rattle.std.proofs.Common.{◌+◌}
-use Rattle.bits.specs.steps.Around.{AreAround}
+use Rattle.bits.specs.steps.Blocks.{AreAround}
 use Rattle.bits.proofs.places.narrowed.Given as goal
 
 abbrev pub invariant-loop-width : goal.invariant-loop-width

@@ -2,7 +2,7 @@ use Rattle.std.proofs.Common.{false, arith, ◌/◌, ◌%◌, ◌+◌, ◌<◌, 
 use Rattle.std.proofs.lemmas.Bool.{ne_eqb}
 use Rattle.bits.specs.steps.Packing.{top_bit}
 use Rattle.bits.proofs.laws.ShiftLaws.{sums_kept, sums_all, risen_first, risen_more, risen_past}
-use Rattle.bits.proofs.laws.WordLaws.{carried_first, carried_all}
+use Rattle.bits.proofs.laws.BitLaws.{carried_first, carried_all}
 use Rattle.bits.proofs.sparse.insert_in_marked.Goals as goal
 
 pub returns-then-first-words-clause-taken : goal.returns-then-first-words-clause-taken

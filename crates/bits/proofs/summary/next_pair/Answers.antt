@@ -4,7 +4,7 @@ use Rattle.std.specs.Int.{bit_at}
 use Rattle.std.proofs.lemmas.Nat.{and_le_l}
 use Rattle.std.proofs.lemmas.Nat.Bits.{bit_at-zero}
 use Rattle.bits.specs.steps.Summaries.{HasPair}
-use Rattle.bits.proofs.laws.MarkLaws.{from_on, summary_marks, whole_marks, word_found, word_empty}
+use Rattle.bits.proofs.laws.SummaryLaws.{from_on, summary_marks, whole_marks, word_found, word_empty}
 use Rattle.bits.proofs.summary.next_pair.Goals as goal
 
 pub returns-then-ahead-ne0-clause-first : goal.returns-then-ahead-ne0-clause-first

@@ -1,8 +1,6 @@
 use Rattle.std.proofs.Common.{◌≡◌, ◌∙◌, length, rules, subst, List, ℕ}
-use Rattle.bits.specs.steps.RowMoves.{Makes}
-use Rattle.bits.specs.steps.Held.{words_in}
-use Rattle.bits.proofs.laws.RowsLaws.{slice_written, row_lent_size, whole_row}
-use Rattle.bits.proofs.laws.WholeLaws.{row_changed_by}
+use Rattle.bits.specs.steps.Held.{Makes, words_in}
+use Rattle.bits.proofs.laws.RowsLaws.{slice_written, row_lent_size, whole_row, row_changed_by}
 use Rattle.bits.proofs.whole_rows.move_row.Goals as goal
 
 pub returns-clause-row : goal.returns-clause-row

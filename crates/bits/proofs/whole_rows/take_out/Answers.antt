@@ -1,6 +1,6 @@
 use Rattle.std.proofs.Common.{◌≡◌, ◌∙◌, ◌+◌, ◌-◌, ◌*◌, ◌++◌, ap, arith, length, take, drop, List, ℕ}
 use Rattle.bits.specs.steps.Held.{words_in}
-use Rattle.bits.proofs.laws.WholeLaws.{IsMovedIn, last_moved_in}
+use Rattle.bits.proofs.laws.RowsLaws.{IsMovedIn, last_moved_in}
 use Rattle.bits.proofs.whole_rows.take_out.Goals.{After-truncate-2}
 use Rattle.bits.proofs.whole_rows.take_out.Goals as goal
 

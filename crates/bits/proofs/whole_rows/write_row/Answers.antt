@@ -1,4 +1,4 @@
-use Rattle.bits.proofs.laws.WholeLaws.{bit_written_in}
+use Rattle.bits.proofs.laws.RowsLaws.{bit_written_in}
 use Rattle.bits.proofs.whole_rows.write_row.Goals as goal
 
 pub returns-clause-row : goal.returns-clause-row

@@ -1,8 +1,8 @@
 use Rattle.std.proofs.Common.{◌≡◌, ◌<◌, ◌*◌, ◌/◌, ◌∙◌, sym, ap, arith, length, take, get_or, false, List, Bool, ℕ}
 use Rattle.std.proofs.lemmas.List.{take_all, get_or_default}
 use Rattle.bits.specs.steps.Packing.{all_bits}
-use Rattle.bits.proofs.laws.WordLaws.{length-all_bits}
-use Rattle.bits.proofs.laws.PaddedLaws.{bit_at}
+use Rattle.bits.proofs.laws.BitLaws.{length-all_bits}
+use Rattle.bits.proofs.laws.RowLaws.{bit_at}
 use Rattle.bits.proofs.words.bit_at.Goals as goal
 
 pub returns : goal.returns

@@ -1,7 +1,7 @@
 use Rattle.std.proofs.Common.{◌<◌, arith, sym, ◌∙◌, get_or, length, subst, List, ℕ}
 use Rattle.std.proofs.lemmas.Bool.{false≢true}
-use Rattle.bits.specs.steps.RowWords.{words_of}
-use Rattle.bits.proofs.laws.BesideLaws.{WordsAlike, alike_more, alike_word}
+use Rattle.bits.specs.steps.StoredRows.{words_of}
+use Rattle.bits.proofs.laws.SameLaws.{WordsAlike, alike_more, alike_word}
 use Rattle.bits.proofs.words.same_beside.Goals as goal
 
 pub returns-then-not-same_word_beside : goal.returns-then-not-same_word_beside

@@ -1,6 +1,6 @@
 use Rattle.std.proofs.Common.{◌*◌}
 use Rattle.bits.specs.steps.Packing.{all_bits, AreAlikeBeside}
-use Rattle.bits.specs.steps.RowWords.{words_of}
+use Rattle.bits.specs.steps.StoredRows.{words_of}
 use Rattle.bits.proofs.words.same_beside.Given as goal
 
 abbrev pub invariant-loop-k : goal.invariant-loop-k

@@ -2,7 +2,7 @@ use Rattle.std.proofs.Common.{◌<◌, ◌^◌, arith, refl, ap, sym, ◌≡◌,
 use Rattle.std.proofs.lemmas.List.{take_all, get_or_default}
 use Rattle.std.proofs.lemmas.Bool.{false≢true}
 use Rattle.bits.specs.steps.Packing.{all_bits}
-use Rattle.bits.specs.steps.RowWords.{words_of}
+use Rattle.bits.specs.steps.StoredRows.{words_of}
 use Rattle.bits.proofs.laws.SameLaws.{same_size, same_words_at}
 use Rattle.bits.proofs.words.same_bits.Goals as goal
 

@@ -1,5 +1,5 @@
 use Rattle.std.proofs.Common.{◌≡◌, take}
-use Rattle.bits.specs.steps.RowWords.{words_of}
+use Rattle.bits.specs.steps.StoredRows.{words_of}
 use Rattle.bits.proofs.words.same_bits.Given as goal
 
 abbrev pub invariant-loop-k : goal.invariant-loop-k

@@ -1,6 +1,6 @@
 use Rattle.std.proofs.Common.{arith}
 use Rattle.std.proofs.lemmas.Bool.{false≢true, eqb-true, eq-eqb}
-use Rattle.bits.proofs.laws.BesideLaws.{alike_elsewhere, alike_cleared, cleared_alike}
+use Rattle.bits.proofs.laws.SameLaws.{alike_elsewhere, alike_cleared, cleared_alike}
 use Rattle.bits.proofs.words.same_word_beside.Goals as goal
 
 pub returns-then-k-at : goal.returns-then-k-at

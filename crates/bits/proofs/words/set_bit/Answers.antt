@@ -2,7 +2,7 @@ use Rattle.std.proofs.Common.{◌∙◌, ap, sym}
 use Rattle.std.specs.Prelude.{nat_eq}
 use Rattle.std.specs.Int.{w64}
 use Rattle.std.proofs.lemmas.Nat.Bits.{bit_at_set_same, bit_at_set_other, bit_at_clear_same, bit_at_clear_other}
-use Rattle.bits.proofs.laws.GetLaws.{bit_written}
+use Rattle.bits.proofs.laws.BitLaws.{bit_written}
 use Rattle.bits.proofs.words.set_bit.Goals as goal
 
 pub returns-then-bit : goal.returns-then-bit

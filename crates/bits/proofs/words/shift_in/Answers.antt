@@ -1,6 +1,6 @@
 use Rattle.std.proofs.Common.{arith, ◌/◌, ◌%◌, get_or}
 use Rattle.bits.specs.steps.Packing.{top_bit}
-use Rattle.bits.proofs.laws.WordLaws.{carried_first, carried_more, carried_all}
+use Rattle.bits.proofs.laws.BitLaws.{carried_first, carried_more, carried_all}
 use Rattle.bits.proofs.words.shift_in.Goals as goal
 
 pub returns-then-first-words : goal.returns-then-first-words

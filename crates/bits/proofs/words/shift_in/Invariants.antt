@@ -1,6 +1,6 @@
 use Rattle.bits.specs.steps.Packing.{top_bit}
 use Rattle.bits.proofs.words.shift_in.Given as goal
-use Rattle.bits.proofs.laws.WordLaws.{Carried}
+use Rattle.bits.proofs.laws.BitLaws.{Carried}
 
 -- the bits so far, and the carry before the rest, are the bits with the new one
 abbrev pub invariant-loop-k : goal.invariant-loop-k

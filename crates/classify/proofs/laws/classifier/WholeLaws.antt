@@ -3,21 +3,19 @@ use Rattle.fields.specs.declared.numbers.spans.Interval.{Interval}
 use Rattle.std.proofs.Common.{◌≡◌, ◌↔◌, inl, inr, ℕ, suc, ◌+◌, ◌<◌, ◌≤◌, Bool, true, false, cond, List, [], ◌∷◌, ◌++◌, length, length-append, take, drop, get_or, replicate, All, refl, sym, ◌∙◌, arith, subst}
 use Rattle.std.specs.List.{insert, remove}
 use lib.ListN.{get_or-eq_default}
-use Rattle.std.proofs.Math.ListN.{get_or-append}
+use Rattle.std.proofs.Math.ListN.{get_or-append, set}
 use Rattle.std.proofs.Math.Seq.{get_or-append_seam}
 use Rattle.std.proofs.Math.Dec.{leb}
-use Rattle.std.proofs.Math.ListN.{set}
 use Rattle.std.proofs.lemmas.Bool.{cases_eq, cases_lt, true≢false}
 use Rattle.std.proofs.lemmas.List.{get_or_default, get_or-set_other, get_or-set_same, length-map, length-replicate, same_lists}
 use Rattle.std.proofs.lemmas.List.Elements.{All-append, All-cons, All-drop, All-head, All-map, All-nil, All-push, All-replicate, All-same, All-set, All-tail, All-take, All-weaker}
 use Rattle.fields.specs.numbers.Spans.{SpanSet, has, AreSpansFrom}
 use Rattle.fields.proofs.laws.numbers.SpanLaws.{has_above, has_first, none_below}
-use Rattle.classify.specs.line.Line.{IsLineOf, row_at}
+use Rattle.classify.specs.Line.{IsLineOf, row_at}
 use Rattle.classify.specs.steps.Fields.{InsertsSet, LosesBox, ReplacesSet}
-use Rattle.classify.specs.steps.Kept.{IsSound, PiecesAndRoom}
+use Rattle.classify.specs.steps.Kept.{IsSound, PiecesAndRoom, AreUnmarked, IsAmong, IsEverything, IsWhole}
 use Rattle.classify.specs.steps.Pieces.{IsRising, IsRisingFrom, piece_at, row_in}
 use Rattle.fields.specs.declared.numbers.field.TheConstants.{FIELDS}
-use Rattle.classify.specs.steps.Whole.{AreUnmarked, IsAmong, IsEverything, IsWhole}
 use Rattle.classify.proofs.laws.line.BoxLaws.{rising_from_line, steps_of_line}
 use Rattle.classify.proofs.laws.line.KeptLaws.{said_long}
 use Rattle.classify.proofs.laws.line.LineLaws.{line_from_steps}

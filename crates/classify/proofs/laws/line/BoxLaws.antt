@@ -6,17 +6,15 @@ use Rattle.std.specs.List.{insert, remove}
 use Rattle.std.proofs.Math.ListN.{set}
 use Rattle.std.proofs.lemmas.List.{map-append, take-map, drop-map, map-set}
 use Rattle.std.proofs.lemmas.List.Edits.{length-insert, length-remove}
-use Rattle.classify.specs.line.Line.{row_at, IsLineOf}
+use Rattle.classify.specs.Line.{row_at, IsLineOf}
 use Rattle.fields.specs.numbers.Spans.{has}
-use Rattle.classify.specs.steps.Cuts.{CutsStart}
-use Rattle.classify.specs.steps.Pieces.{piece_at, row_in, IsRising, Differ, IsSplitOf, row_bits}
+use Rattle.classify.specs.steps.Pieces.{CutsStart, piece_at, row_in, IsRising, Differ, IsSplitOf, row_bits}
 use Rattle.classify.specs.steps.Kept.{PiecesAndRoom, IsSound}
 use Rattle.classify.specs.steps.Edits.{IsMergeOf, with_answer, with_test, with_written, without_answer, Says}
 use Rattle.classify.proofs.laws.line.StepLaws.{AreStepsOf, steps_from, says_from_steps, one_list_of_steps}
 use Rattle.classify.proofs.laws.line.LineLaws.{AreSteps, line_from_steps, steps_from_line, cases_rows}
-use Rattle.classify.proofs.laws.line.EditLaws.{rows_say, rows_rising, same_over_piece}
+use Rattle.classify.proofs.laws.line.EditLaws.{rows_say, rows_rising, same_over_piece, row_in_first}
 use Rattle.classify.proofs.laws.line.KeptLaws.{bits_said}
-use Rattle.classify.proofs.laws.line.ShownLaws.{row_in_first}
 
 abbrev pub Cut : Type 0
 Cut = ℕ × List Bool

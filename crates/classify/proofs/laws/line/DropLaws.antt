@@ -16,11 +16,11 @@ map-remove g [] (suc k) = refl
 map-remove g (p ∷ ps) zero = refl
 map-remove g (p ∷ ps) (suc k) = ap (λ (cs : List Cut). g p ∷ cs) (map-remove g ps k)
 
-take-remove : (line : List Cut) (k : ℕ) → take k (remove line k) ≡ take k line
-take-remove [] zero = refl
-take-remove [] (suc k) = refl
-take-remove (p ∷ ps) zero = refl
-take-remove (p ∷ ps) (suc k) = ap (λ (cs : List Cut). p ∷ cs) (take-remove ps k)
+take-remove-at : (line : List Cut) (k : ℕ) → take k (remove line k) ≡ take k line
+take-remove-at [] zero = refl
+take-remove-at [] (suc k) = refl
+take-remove-at (p ∷ ps) zero = refl
+take-remove-at (p ∷ ps) (suc k) = ap (λ (cs : List Cut). p ∷ cs) (take-remove-at ps k)
 
 -- down to the k-th piece, no cut is left that only the answers at the place make; the pieces up to it are those of the old line
 pub record Dropping (at : ℕ) (old now : List Cut) (k : ℕ) : Type 0 where
@@ -62,7 +62,7 @@ dropping_step at old now final j h joined =
           let Q : List Cut → Type 0 = λ cs. Merging (map g old) cs j in
           subst P (sym (gone.0 ∙ ap (λ k. remove now k) next)) (record {
             fits = omega (arith, h.fits);
-            prefix = take-remove now (suc j) ∙ take-less now old (suc j) h.prefix;
+            prefix = take-remove-at now (suc j) ∙ take-less now old (suc j) h.prefix;
             merging = subst Q (sym (map-remove g now (suc j))) dropped;
           }))
     ]

@@ -5,13 +5,11 @@ use Rattle.std.specs.List.{remove}
 use Rattle.std.specs.Prelude.{slice_index}
 use Rattle.fields.specs.declared.numbers.spans.Interval.{Interval}
 use Rattle.fields.specs.numbers.Spans.{has}
-use Rattle.classify.specs.line.Line.{starts}
-use Rattle.classify.specs.steps.Cuts.{CutsStart, IsApart}
-use Rattle.classify.specs.steps.Pieces.{piece_at, IsRisingFrom, IsRising, DifferFrom, Differ, StartsAt, row_bits}
+use Rattle.classify.specs.Line.{starts}
+use Rattle.classify.specs.steps.Pieces.{CutsStart, IsApart, piece_at, IsRisingFrom, IsRising, DifferFrom, Differ, StartsAt, row_bits}
 use Rattle.classify.specs.steps.Kept.{PiecesAndRoom}
 use Rattle.classify.specs.steps.Edits.{with_written, without_answer, KeepsApart}
-use Rattle.classify.proofs.laws.line.EditLaws.{same_over_piece}
-use Rattle.classify.proofs.laws.line.ShownLaws.{row_in_first, here_at, start_in, starts_here}
+use Rattle.classify.proofs.laws.line.EditLaws.{same_over_piece, row_in_first, here_at, start_in, starts_here}
 use Rattle.classify.proofs.laws.line.ApartLaws.{cuts_behind}
 use Rattle.classify.proofs.laws.line.KeptLaws.{row_long}
 

@@ -5,11 +5,11 @@ use Rattle.std.specs.Prelude.{slice_index}
 use Rattle.std.proofs.Math.Dec.{leb}
 use Rattle.std.proofs.Math.ListN.{set}
 use Rattle.bits.specs.MarginRows.{Room}
-use Rattle.classify.specs.line.Line.{starts}
+use Rattle.classify.specs.Line.{starts}
 use Rattle.classify.specs.steps.Pieces.{piece_at, IsRisingFrom, IsRising, EachRow, SayTheSame, row_bits, row_in}
 use Rattle.classify.specs.steps.Edits.{row_of}
 use Rattle.classify.specs.steps.Kept.{IsLine, PiecesAndRoom, most_start, line_prop}
-use Rattle.classify.proofs.laws.line.ShownLaws.{Cut, IsIn, row_in_first, split_done}
+use Rattle.classify.proofs.laws.line.EditLaws.{Cut, IsIn, row_in_first, split_done}
 use Rattle.classify.proofs.laws.line.StepLaws.{before_all}
 use Rattle.classify.proofs.laws.line.ApartLaws.{begins_at, begins_there}
 use Rattle.classify.proofs.laws.line.LoopLaws.{merge_line_rising}

@@ -12,18 +12,16 @@ use Rattle.std.proofs.lemmas.List.Edits.{length-insert, get_or-insert_at}
 use Rattle.std.proofs.lemmas.List.Folds.{list_all-append, list_any-append}
 use Rattle.fields.specs.numbers.Spans.{has, in_span, AreSpansFrom}
 use Rattle.fields.proofs.laws.numbers.SpanLaws.{in_it, none_below, out_above, out_below}
-use Rattle.classify.specs.line.Line.{starts}
-use Rattle.classify.specs.steps.Cuts.{CutsStart}
-use Rattle.classify.specs.steps.Pieces.{IsRising, IsRisingFrom, StartsAt, row_bits}
+use Rattle.classify.specs.Line.{starts}
+use Rattle.classify.specs.steps.Pieces.{CutsStart, IsRising, IsRisingFrom, StartsAt, row_bits}
 use Rattle.classify.specs.steps.Kept.{PiecesAndRoom, most_start}
-use Rattle.classify.specs.steps.Edits.{with_answer, with_bit, with_test, with_written, row_of}
-use Rattle.classify.specs.steps.Runs.{IsRunIn, IsRunWritten}
-use Rattle.classify.proofs.laws.line.ShownLaws.{Cut}
+use Rattle.classify.specs.steps.Edits.{with_answer, with_bit, with_test, with_written, row_of, IsRunIn, IsRunWritten}
+use Rattle.classify.proofs.laws.line.EditLaws.{Cut}
 use Rattle.classify.proofs.laws.line.KeptLaws.{row_long}
-use Rattle.classify.proofs.laws.line.EndLaws.{ends_from_cuts, starts_zero}
+use Rattle.classify.proofs.laws.line.ApartLaws.{ends_from_cuts, starts_zero}
 use Rattle.classify.proofs.laws.line.KeepApartLaws.{within_at}
 use Rattle.classify.proofs.laws.line.LoopLaws.{spans_within}
-use Rattle.classify.proofs.laws.line.RunLaws.{bits_as_long, bits_start, bits_written, start_was}
+use Rattle.classify.proofs.laws.line.PieceLaws.{bits_as_long, bits_start, bits_written, start_was}
 
 abbrev none : Cut
 none = (0, [])

@@ -9,24 +9,22 @@ use Rattle.std.proofs.lemmas.List.{get_or-take, get_or-drop, get_or-map, get_or_
 use Rattle.std.proofs.lemmas.List.FromFn.{get_or-map-range_with_len, length-map-range_with_len}
 use Rattle.std.proofs.lemmas.List.Sums.{AllPass-from_list_all, list_all-from_AllPass}
 use Rattle.fields.specs.numbers.Spans.{SpanSet}
-use Rattle.bits.specs.steps.First.{IsFirst}
+use Rattle.bits.specs.steps.Summaries.{IsFirst}
 use Rattle.bits.specs.declared.row_words.RowWords.{RowWords}
 use Rattle.bits.specs.declared.turned_rows.TurnedWords.{TurnedWords}
-use Rattle.classify.specs.classifier.Classifier.{Classified, IsClassifierOf, IsPoint, box_matches}
-use Rattle.classify.specs.search.NextMatch.{next_match}
+use Rattle.classify.specs.Classifier.{Classified, IsClassifierOf, IsPoint, box_matches}
+use Rattle.classify.specs.NextMatch.{next_match}
 use Rattle.fields.specs.declared.numbers.field.TheConstants.{FIELDS}
-use Rattle.classify.specs.steps.CommonPlaces.{ArePacked, AreRowsOf, AreWide, HaveAll, all_have, bits_of, common_bits}
+use Rattle.classify.specs.steps.CommonPlaces.{ArePacked, AreRowsOf, AreWide, HaveAll, all_have, bits_of, common_bits, AreAtPoint, AreFound, IsAtPoint, in_common, line_of_field, rows_found, AreCandidates, IsOfAll, SumUpAll}
 use Rattle.classify.specs.steps.Edits.{row_of}
 use Rattle.classify.specs.steps.Fields.{EachLine, shown_line, IsKept}
-use Rattle.classify.specs.steps.Found.{AreAtPoint, AreFound, IsAtPoint, in_common, line_of_field, rows_found}
 use Rattle.classify.specs.steps.Kept.{PiecesAndRoom}
 use Rattle.classify.specs.steps.Pieces.{row_in}
 use Rattle.classify.proofs.laws.classifier.ClassifierLaws.{shown_at_place}
 use Rattle.classify.proofs.laws.line.KeptLaws.{row_long}
-use Rattle.classify.proofs.laws.line.ShownLaws.{Cut}
-use Rattle.classify.specs.steps.Summaries.{AreCandidates, IsOfAll, SumUpAll}
+use Rattle.classify.proofs.laws.line.EditLaws.{Cut}
 use Rattle.classify.proofs.laws.search.NextLaws.{AllowsOn, have_to_allow, next_from_first, row_same, some_line}
-use Rattle.classify.proofs.laws.search.TurnedLaws.{none_past, row_wide}
+use Rattle.classify.proofs.laws.search.SearchLaws.{none_past, row_wide}
 
 abbrev Rows : Type 0
 Rows = List TurnedWords

@@ -1,4 +1,4 @@
-use Rattle.classify.specs.classifier.Classifier.{box_allows}
+use Rattle.classify.specs.Classifier.{box_allows}
 use Rattle.classify.proofs.laws.line.LineLaws.{one_line}
 use Rattle.classify.proofs.line.boxes_have_one_line.Goals as goal
 

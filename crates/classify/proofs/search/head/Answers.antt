@@ -1,7 +1,7 @@
 use Rattle.std.proofs.Common.{arith, ◌*◌, ◌+◌, ◌/◌, ◌%◌, ◌^◌, ◌-◌, ℕ, bit_and}
 use Rattle.std.proofs.lemmas.Nat.{and_le_l}
 use Rattle.classify.specs.steps.CommonPlaces.{HaveAll}
-use Rattle.bits.proofs.laws.MarkLaws.{word_found, word_empty}
+use Rattle.bits.proofs.laws.SummaryLaws.{word_found, word_empty}
 use Rattle.classify.proofs.laws.search.SearchLaws.{head_marks}
 use Rattle.classify.proofs.search.head.Goals as goal
 

@@ -1,6 +1,6 @@
 use Rattle.std.proofs.Common.{arith, ◌<◌, ◌≤◌, ◌*◌, ◌+◌}
 use Rattle.classify.specs.steps.CommonPlaces.{HaveAll}
-use Rattle.bits.proofs.laws.MarkLaws.{word_found, word_empty}
+use Rattle.bits.proofs.laws.SummaryLaws.{word_found, word_empty}
 use Rattle.classify.proofs.laws.search.SearchLaws.{whole_marks}
 use Rattle.classify.proofs.search.scan.Goals as goal
 

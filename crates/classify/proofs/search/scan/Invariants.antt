@@ -1,5 +1,5 @@
 use Rattle.std.proofs.Common.{◌*◌}
-use Rattle.bits.specs.steps.First.{Nowhere}
+use Rattle.bits.specs.steps.Summaries.{Nowhere}
 use Rattle.classify.specs.steps.CommonPlaces.{HaveAll}
 use Rattle.classify.proofs.search.scan.Given as goal
 

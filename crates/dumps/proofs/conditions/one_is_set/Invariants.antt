@@ -2,7 +2,7 @@ use Rattle.std.proofs.Common.{◌≡◌, drop}
 use Rattle.std.specs.List.{list_any}
 use Rattle.dumps.specs.Foreign.{kept_names, is_named}
 use Rattle.dumps.specs.Numbers.{Asked}
-use Rattle.dumps.specs.NumberViews.{all_in}
+use Rattle.dumps.specs.Views.{all_in}
 use Rattle.dumps.proofs.conditions.one_is_set.Given as goal
 
 abbrev pub invariant-loop-one : goal.invariant-loop-one

@@ -1,4 +1,4 @@
--- Laws of numbers as they are written.
+-- Laws of numbers as they are written, and of the bytes of their digits.
 use Rattle.std.proofs.Common.{◌≡◌, ◌==◌, ℕ, zero, suc, ◌+◌, ◌-◌, ◌*◌, ◌^◌, ◌<◌, ◌≤◌, Bool, true, false, cond, not, ◌&&◌, ◌||◌, List, [], ◌∷◌, length, get_or, Option, None, Some, refl, sym, ap, subst, ◌∙◌, arith, inl, inr, leb, ne_eqb, eq-eqb}
 use Rattle.std.specs.Prelude.{decimal, IfSome}
 use Rattle.std.specs.Char.{is_ascii_digit}
@@ -7,7 +7,11 @@ use Rattle.std.proofs.Math.Nat.{pow-suc}
 use Rattle.std.proofs.lemmas.Bool.{and_parts, and_from, lt-ltb, le-leb, ltb-true, leb-true, eqb-true, cases_lt, or_right}
 use Rattle.std.proofs.lemmas.Fmt.{decimal_digit, decimal_nonempty, first_decimal, length-decimal-le, digits_decimal, digits_value-decimal, decimal-digits_value}
 use Rattle.std.proofs.lemmas.Str.Parse.{IsNumeralModel, numerals_by_fold, tells_all_ascii_digits, digits_value_short}
+use Rattle.std.specs.List.{list_all}
 use Rattle.fields.specs.text.Number.{IsNumber, number_from, has_number_form, number_of, at_most, number_to}
+use Rattle.fields.proofs.laws.ListLaws.{all-weaker}
+
+-- ---- Laws of numbers as they are written.
 
 power_up : (i : ℕ) → i ≤ 8 → 10 ^ i ≤ 100000000
 power_up i h = go i (8 - i) (omega arith)
@@ -125,3 +129,13 @@ number_to_sound top text n e = go (number_of text) refl e
 pub number_to_only : (top : ℕ) (text : List ℕ) (r : Option ℕ) → r ≡ number_to top text → IfSome r (λ n. IsNumber text n × (n ≤ top))
 number_to_only top text None e = tt
 number_to_only top text (Some n) e = number_to_sound top text n (sym e)
+
+-- ---- The bytes of a number's text.
+
+-- what is no digit doesn't stand among digits
+pub digits-differ : (b : ℕ) → is_ascii_digit b ≡ false → (xs : List ℕ) → all_ascii_digits xs ≡ true → list_all (λ x. not (x == b)) xs ≡ true
+digits-differ b off xs all = all-weaker is_ascii_digit (λ x. not (x == b)) xs (λ x is. ap not (ne_eqb x b (λ e. let on = subst (λ n. is_ascii_digit n ≡ true) e is in cc))) all
+
+-- a number's text has digits alone
+pub decimal-differs : (b n : ℕ) → is_ascii_digit b ≡ false → n < 2 ^ 64 → list_all (λ x. not (x == b)) (decimal n) ≡ true
+decimal-differs b n off small = digits-differ b off (decimal n) (digits_decimal numeral n small)

@@ -1,9 +1,15 @@
--- The function that finds the words of a line finds exactly the words that the line is made of.
-use Rattle.std.proofs.Common.{◌≡◌, ◌≢◌, ◌==◌, ◌↔◌, inl, inr, ℕ, Bool, true, false, cond, not, ◌&&◌, List, [], ◌∷◌, ◌++◌, Option, Some, None, refl, sym, ap, subst, ◌∙◌, append_assoc, ne_eqb, eq-eqb}
+-- The function that finds the words of a line finds exactly the words that the line is made of, also at lines that are computed.
+use Rattle.std.proofs.Common.{◌≡◌, ◌≢◌, ◌==◌, ◌↔◌, inl, inr, ℕ, Bool, true, false, cond, not, ◌&&◌, List, [], ◌∷◌, ◌++◌, Option, Some, None, refl, sym, ap, subst, ◌∙◌, append_assoc, ne_eqb, eq-eqb, Result, Ok, Err}
+use Rattle.std.specs.Prelude.{MatchResult, IfOk, IfErr, codes}
 use Rattle.std.specs.List.{list_all}
 use Rattle.std.specs.Option.{option_map}
 use Rattle.std.proofs.lemmas.Bool.{and_parts, and_from, not-true, eqb-true}
-use Rattle.fields.specs.text.Words.{is_blank, AreBlanks, is_bare, IsQuotedByte, IsQuotedText, IsSpelling, EndsWord, AreWords, State, Between, Bare, Quoted, Escaped, Closed, Skips, Joins, Ends, Breaks, joins, transition_of, in_front, acted, words_from, words_of}
+use Rattle.fields.specs.text.Words.{is_blank, AreBlanks, is_bare, IsQuotedByte, IsQuotedText, IsSpelling, EndsWord, AreWords, State, Between, Bare, Quoted, Escaped, Closed, Skips, Joins, Ends, Breaks, joins, transition_of, in_front, acted, words_from, words_of, OnQuoting}
+use Rattle.fields.specs.Refusals.{or_refused}
+use Rattle.fields.specs.declared.text.words.WordFault.{WordFault}
+use Rattle.fields.specs.declared.text.words.WordFault.TheVariants.{Quoting, NoMemory}
+
+-- ---- The function that finds the words of a line finds exactly the words that the line is made of.
 
 -- From the spellings to the words found.
 
@@ -225,3 +231,67 @@ AreWords-words_of words line found = subst (λ (o : Option (List (List ℕ))). M
 -- words are found exactly where the line is made of them
 pub words_of-law : (words : List (List ℕ)) (line : List ℕ) → (words_of line ≡ Some words) ↔ AreWords words line
 words_of-law words line = (AreWords-words_of words line, words_of-AreWords words line)
+
+-- ---- What is told of a line's words, by the function that finds them and by what the line is made of.
+
+pub came : (wanted : Option (List (List ℕ))) (words : List (List ℕ)) → or_refused Quoting wanted ≡ Ok words → wanted ≡ Some words
+came (Some found) words is = cc
+came None words is = cc
+
+abbrev pub IsExact : Result (List (List ℕ)) WordFault → List ℕ → Type 0
+IsExact result line = MatchResult result (λ words. words_of line ≡ Some words) (λ fault. OnQuoting fault (words_of line ≡ None))
+
+pub exact-found : (result : Result (List (List ℕ)) WordFault) (line : List ℕ) → IsExact result line → IfOk result (λ words. AreWords words line)
+exact-found (Ok words) line exact = AreWords-words_of words line exact
+exact-found (Err fault) line exact = tt
+
+pub exact-only : (result : Result (List (List ℕ)) WordFault) (line : List ℕ) → IsExact result line
+    → (words : List (List ℕ)) → AreWords words line → MatchResult result (λ found. found ≡ words) (λ fault. fault ≡ NoMemory)
+exact-only (Ok found) line exact words are = let same = sym exact ∙ words_of-AreWords words line are in cc
+exact-only (Err Quoting) line exact words are = let same = sym exact ∙ words_of-AreWords words line are in cc
+exact-only (Err NoMemory) line exact words are = refl
+
+pub exact-quoting : (result : Result (List (List ℕ)) WordFault) (line : List ℕ) → IsExact result line
+    → IfErr result (λ fault. OnQuoting fault ((words : List (List ℕ)) → ¬ AreWords words line))
+exact-quoting (Ok words) line exact = tt
+exact-quoting (Err Quoting) line exact = λ words are. let same = sym exact ∙ words_of-AreWords words line are in cc
+exact-quoting (Err NoMemory) line exact = tt
+
+-- ---- Lines and their words, computed.
+
+blank-line : words_of (codes " \t") ≡ Some []
+blank-line = refl
+
+blanks-and-tabs : words_of (codes " a\t b ") ≡ Some (codes "a" ∷ codes "b" ∷ [])
+blanks-and-tabs = refl
+
+ordinary-bytes : words_of (codes "a\\b 'c' \r") ≡ Some (codes "a\\b" ∷ codes "'c'" ∷ codes "\r" ∷ [])
+ordinary-bytes = refl
+
+quoted-word : words_of (codes "\"a b\" c") ≡ Some (codes "a b" ∷ codes "c" ∷ [])
+quoted-word = refl
+
+empty-word : words_of (codes "\"\"") ≡ Some ([] ∷ [])
+empty-word = refl
+
+escaped-bytes : words_of (codes "\"a\\\"b\\\\\"") ≡ Some (codes "a\"b\\" ∷ [])
+escaped-bytes = refl
+
+rule-words : words_of (codes "-A INPUT -m comment --comment \"a b\" -j ACCEPT")
+    ≡ Some (codes "-A" ∷ codes "INPUT" ∷ codes "-m" ∷ codes "comment" ∷ codes "--comment" ∷ codes "a b" ∷ codes "-j" ∷ codes "ACCEPT" ∷ [])
+rule-words = refl
+
+open-quote : words_of (codes "\"") ≡ None
+open-quote = refl
+
+open-escape : words_of (codes "\"a\\") ≡ None
+open-escape = refl
+
+quote-in-a-word : words_of (codes "a\"b\"") ≡ None
+quote-in-a-word = refl
+
+word-behind-a-quote : words_of (codes "\"a\"b") ≡ None
+word-behind-a-quote = refl
+
+quote-behind-a-quote : words_of (codes "\"a\"\"b\"") ≡ None
+quote-behind-a-quote = refl

@@ -6,9 +6,8 @@ use Rattle.std.proofs.lemmas.Bool.{and_parts, eqb-true, leb-true}
 use Rattle.fields.specs.Sequence.{◌>>=◌}
 use Rattle.fields.specs.values.NameList.{is_just, set_listed, names_listed}
 use Rattle.fields.specs.values.ConnectionState.{states, ctstate_of, untranslated, state_of, IsStates, states_text, packet_states, packet_state_of, marks_of}
-use Rattle.fields.specs.steps.PacketStateTable.{StateRow, named_numbers, marks_in, all_marked}
-use Rattle.fields.proofs.laws.numbers.BelowLaws.{all_below, all_below-at, is_just-same}
-use Rattle.fields.proofs.laws.values.NameListLaws.{set_listed-lt, set_listed-some, number_named-passes}
+use Rattle.fields.specs.steps.Tables.{StateRow, named_numbers, marks_in, all_marked}
+use Rattle.fields.proofs.laws.values.NameListLaws.{all_below, all_below-at, is_just-same, set_listed-lt, set_listed-some, number_named-passes}
 
 -- what is read is a set of some of the seven
 pub are_states : (text : List ℕ) (n : ℕ) → ctstate_of text ≡ Some n → IsStates n

@@ -12,9 +12,8 @@ use Rattle.fields.specs.values.Icmp.{icmp_names, asked_by_name, asked_type, numb
 use Rattle.fields.specs.declared.values.icmp.Asked.{Asked}
 use Rattle.fields.specs.declared.values.icmp.Asked.TheVariants.{Any, OfType, OfCode}
 use Rattle.fields.proofs.laws.text.CutLaws.{cut_at-at, cut_at-none, step_before, same_some}
-use Rattle.fields.proofs.laws.text.DecimalLaws.{decimal-differs}
+use Rattle.fields.proofs.laws.text.NumberLaws.{decimal-differs, number_to-decimal, number_to_sound}
 use Rattle.fields.proofs.laws.ListLaws.{find-among}
-use Rattle.fields.proofs.laws.text.NumberLaws.{number_to-decimal, number_to_sound}
 
 -- what is read is a legal type
 type_is_asked : (n : ℕ) → n ≤ 255 → IsAsked (asked_type n)

@@ -1,22 +1,55 @@
--- Lists of names are read name by name, and their text is made of the names.
-use Rattle.std.proofs.Common.{◌≡◌, ◌==◌, ℕ, Bool, true, false, cond, List, [], ◌∷◌, Option, None, Some, refl, ap, sym, subst, ◌∙◌, map, length, not, ◌^◌, ◌<◌, arith}
+-- Lists of names are read name by name, their text is made of the names, and their sets of bits are unions.
+use lib.Arith.{bin_ind}
+use lib.Bits.{or_step}
+use Rattle.std.proofs.Common.{◌≡◌, ℕ, zero, suc, ◌<◌, Bool, true, ◌&&◌, Option, None, Some, ap, subst, arith, inl, inr, ◌/◌, sym, ◌∙◌, ◌==◌, false, cond, List, [], ◌∷◌, refl, map, length, not, ◌^◌}
 use Rattle.std.specs.Prelude.{option_map, nat_lt}
+use Rattle.std.proofs.lemmas.Bool.{and_parts, cases_lt, eqb-true, not-true, ltb-true}
 use Rattle.std.specs.Int.RustNames.{bit_or}
 use Rattle.std.specs.Int.Bits.{or_zero_r}
+use Rattle.std.proofs.lemmas.Nat.{or_shr, or_lt, le_or_l}
 use Rattle.std.specs.List.{list_all}
 use Rattle.std.specs.Str.{bytes_eq, str_eq_ignore_ascii_case}
-use Rattle.std.proofs.lemmas.Bool.{and_parts, not-true, ltb-true}
-use Rattle.std.proofs.lemmas.Nat.{or_lt, le_or_l}
 use Rattle.std.proofs.Math.Pow.{pow_pos}
 use Rattle.std.proofs.lemmas.Slice.Eq.{bytes_eq-Decides}
 use Rattle.bitflags.specs.Sets.{find_row, find_name}
+use Rattle.fields.specs.values.NameList.{is_just, row_named, number_named, union, set_listed}
 use Rattle.fields.specs.Sequence.{◌>>=◌}
 use Rattle.fields.specs.text.Cut.{cut_at}
-use Rattle.fields.specs.values.NameList.{row_named, number_named, union, set_listed}
-use Rattle.fields.specs.steps.NamedFlags.{all_have_names}
+use Rattle.fields.specs.steps.Tables.{all_have_names}
 use Rattle.fields.proofs.laws.text.CutLaws.{step_before, same_some, parted, split, split-cut}
 use Rattle.fields.proofs.laws.ListLaws.{find-is, find-among}
-use Rattle.fields.proofs.laws.values.UnionLaws.{or_assoc}
+
+-- ---- A test that holds of each number below a bound, and an answer that is a number.
+
+-- whether the test holds of each number below n
+abbrev pub all_below : (ℕ → Bool) → ℕ → Bool
+all_below test zero = true
+all_below test (suc n) = test n && all_below test n
+
+pub all_below-at : (test : ℕ → Bool) (n k : ℕ) → all_below test n ≡ true → k < n → test k ≡ true
+all_below-at test zero k all within = absurd (omega arith)
+all_below-at test (suc n) k all within =
+    let (last, others) = and_parts (test n) (all_below test n) all in
+    elim (cases_lt k n) [
+      | inl below ↦ all_below-at test n k others below
+      | inr above ↦ let same : n ≡ k = omega arith in subst (λ m. test m ≡ true) same last
+    ]
+
+-- an answer that is this number
+pub is_just-same : (o : Option ℕ) (n : ℕ) → is_just o n ≡ true → o ≡ Some n
+is_just-same None n e = absurd (cc)
+is_just-same (Some m) n e = ap Some (eqb-true m n e)
+
+-- ---- Unions of sets of bits.
+
+pub or_assoc : (c a b : ℕ) → bit_or (bit_or a b) c ≡ bit_or a (bit_or b c)
+or_assoc =
+    bin_ind (λ (c : ℕ). (a b : ℕ) → bit_or (bit_or a b) c ≡ bit_or a (bit_or b c)) (λ a b. or_zero_r (bit_or a b) ∙ sym (ap (bit_or a) (or_zero_r b)))
+    (λ c ih a b.
+    let p : bit_or (bit_or a b / 2) (c / 2) ≡ bit_or (a / 2) (bit_or b c / 2) = ap (λ x. bit_or x (c / 2)) (or_shr a b 1) ∙ ih (a / 2) (b / 2) ∙ sym (ap (bit_or (a / 2)) (or_shr b c 1)) in
+    omega (arith, or_step (bit_or a b) c, or_step a (bit_or b c), or_step a b, or_step b c))
+
+-- ---- Lists of names are read name by name, and their text is made of the names.
 
 abbrev is_named : List ℕ → List ℕ × ℕ → Bool
 is_named text row = str_eq_ignore_ascii_case row.0 text

@@ -10,10 +10,9 @@ use Rattle.fields.specs.Sequence.{◌>>=◌}
 use Rattle.fields.specs.text.Cut.{cut_at}
 use Rattle.fields.specs.values.PortRange.{Ports, ArePorts, ports_between, port_of, ports_text}
 use Rattle.fields.specs.values.PortList.{item_parted, port_item_of, port_count, all_read, counted, port_items_of, port_list_of, IsPortList, port_list_text}
-use Rattle.fields.specs.steps.PortItems.{item_within}
+use Rattle.fields.specs.steps.ValueParts.{item_within}
 use Rattle.fields.proofs.laws.text.CutLaws.{cut_at-at, cut_at-none, step_before, same_some, parted, split, split-cut}
-use Rattle.fields.proofs.laws.text.NumberLaws.{number_to_sound}
-use Rattle.fields.proofs.laws.text.DecimalLaws.{decimal-differs}
+use Rattle.fields.proofs.laws.text.NumberLaws.{number_to_sound, decimal-differs}
 use Rattle.fields.proofs.laws.values.PortRangeLaws.{port_of-decimal, cut-ports_text, one-read, both-read}
 
 -- one item, where there is room for it

@@ -7,8 +7,7 @@ use Rattle.fields.specs.Sequence.{◌>>=◌}
 use Rattle.fields.specs.text.Cut.{cut_at}
 use Rattle.fields.specs.values.PortRange.{Ports, ArePorts, ports_between, port_of, port_or, range_parted, port_range_of, ports_text}
 use Rattle.fields.proofs.laws.text.CutLaws.{cut_at-at, cut_at-none}
-use Rattle.fields.proofs.laws.text.NumberLaws.{number_to-decimal}
-use Rattle.fields.proofs.laws.text.DecimalLaws.{decimal-differs}
+use Rattle.fields.proofs.laws.text.NumberLaws.{number_to-decimal, decimal-differs}
 
 pub ports_between-some : (from to : ℕ) → from ≤ to → ports_between from to ≡ Some (record { from = from; to = to })
 ports_between-some from to ordered = ap (λ t. cond t (Some (record { from = from; to = to })) None) (le-leb from to ordered)

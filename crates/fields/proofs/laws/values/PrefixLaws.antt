@@ -1,20 +1,131 @@
--- The text of an address and of a prefix gives it back.
-use Rattle.std.proofs.Common.{◌≡◌, ◌==◌, ℕ, ◌+◌, ◌-◌, ◌*◌, ◌/◌, ◌%◌, ◌^◌, ◌<◌, ◌≤◌, Bool, true, false, cond, not, List, ◌∷◌, ◌++◌, Option, None, Some, refl, ap, sym, subst, ◌∙◌, arith, ◌⊎◌, inl, inr, eq-eqb}
+-- The text of an address, of a prefix and of a range of addresses gives it back.
+use Rattle.std.proofs.Common.{◌≡◌, ◌==◌, ℕ, ◌+◌, ◌-◌, ◌*◌, ◌≤◌, true, false, cond, not, List, [], ◌∷◌, ◌++◌, length, drop, get_or, Option, None, Some, refl, ap, sym, ◌∙◌, arith, drop-cons, ◌/◌, ◌%◌, ◌^◌, ◌<◌, Bool, subst, ◌⊎◌, inl, inr, eq-eqb}
 use Rattle.std.specs.Prelude.{decimal, count_ones, IfSome}
 use Rattle.std.specs.Char.{is_ascii_digit}
+use Rattle.std.specs.Str.{all_ascii_digits}
+use Rattle.std.proofs.lemmas.Bool.{and_from, le-leb, eqb-true}
 use Rattle.std.specs.Int.Count.{ones-ones, ones-le}
 use Rattle.std.specs.List.{list_all}
-use Rattle.std.proofs.lemmas.Bool.{and_from, eqb-true}
 use Rattle.std.proofs.lemmas.List.Folds.{list_all-append}
 use Rattle.std.proofs.lemmas.Nat.{ones_cat, ones_le_self}
 use Rattle.std.proofs.Math.Pow.{high_ones, pow_pos}
 use Rattle.fields.specs.Sequence.{◌>>=◌}
 use Rattle.fields.specs.text.Cut.{cut_at}
-use Rattle.fields.specs.text.Number.{number_to}
-use Rattle.fields.specs.values.Prefix.{Network, IsNetwork, IsAddressText, IsPrefixText, alone, with_length, with_mask, netmask, mask_length, network, address_of, length_from, length_of, prefix_parted, prefix_of, address_text, prefix_text}
+use Rattle.fields.specs.text.Number.{has_number_form, number_to, at_most}
+use Rattle.fields.specs.steps.ValueParts.{octet_at_front, address_by_octets}
+use Rattle.fields.specs.values.Prefix.{address_of, Network, IsNetwork, IsAddressText, IsPrefixText, alone, with_length, with_mask, netmask, mask_length, network, length_from, length_of, prefix_parted, prefix_of, address_text, prefix_text}
+use Rattle.fields.specs.values.IpRange.{Ends, AreEnds, ends_parted, ip_range_of, ip_range_text}
 use Rattle.fields.proofs.laws.text.CutLaws.{cut_at-at, cut_at-none, cut_at_only, step_before, same_some}
-use Rattle.fields.proofs.laws.text.DecimalLaws.{decimal-differs}
-use Rattle.fields.proofs.laws.text.NumberLaws.{number_to-decimal, number_to_sound}
+use Rattle.fields.proofs.laws.text.NumberLaws.{digits-differ, decimal-differs, folded, number_of-digits, number_to-decimal, number_to_sound}
+
+-- ---- An address is read part by part, with the dot after it.
+
+-- the address of four numbers
+abbrev four : ℕ → ℕ → ℕ → ℕ → Option ℕ
+four w x y z = Some (((w * 256 + x) * 256 + y) * 256 + z)
+
+-- a number with what follows it
+abbrev with_rest : List ℕ → ℕ → Option (ℕ × List ℕ)
+with_rest rest n = Some (n, rest)
+
+abbrev no_number : Option ℕ
+no_number = None
+
+nothing : (o : Option (List ℕ × List ℕ)) → (o >>= λ c. no_number) ≡ no_number
+nothing None = refl
+nothing (Some c) = refl
+
+nothing_twice : (o : Option (List ℕ × List ℕ)) → (o >>= λ b. cut_at 46 b.1 >>= λ c. no_number) ≡ no_number
+nothing_twice None = refl
+nothing_twice (Some b) = nothing (cut_at 46 b.1)
+
+-- the third part, of one number and what follows it
+fourth : (w x : ℕ) (o : Option ℕ) (rest : List ℕ) → (o >>= λ y. number_to 255 rest >>= λ z. four w x y z)
+    ≡ ((o >>= with_rest rest) >>= λ c. number_to 255 c.1 >>= λ z. four w x c.0 z)
+fourth w x None rest = refl
+fourth w x (Some y) rest = refl
+
+third : (w x : ℕ) (o : Option (List ℕ × List ℕ)) → (o >>= λ c. number_to 255 c.0 >>= λ y. number_to 255 c.1 >>= λ z. four w x y z)
+    ≡ ((o >>= λ p. number_to 255 p.0 >>= with_rest p.1) >>= λ c. number_to 255 c.1 >>= λ z. four w x c.0 z)
+third w x None = refl
+third w x (Some c) = fourth w x (number_to 255 c.0) c.1
+
+after_second : (w : ℕ) (o : Option ℕ) (rest : List ℕ) → (cut_at 46 rest >>= λ c. o >>= λ x. number_to 255 c.0 >>= λ y. number_to 255 c.1 >>= λ z. four w x y z)
+    ≡ ((o >>= with_rest rest) >>= λ b. octet_at_front b.1 >>= λ c. number_to 255 c.1 >>= λ z. four w b.0 c.0 z)
+unfolding octet_at_front
+after_second w None rest = nothing (cut_at 46 rest)
+after_second w (Some x) rest = third w x (cut_at 46 rest)
+
+second : (w : ℕ) (o : Option (List ℕ × List ℕ)) → (o >>= λ b. cut_at 46 b.1 >>= λ c. number_to 255 b.0 >>= λ x. number_to 255 c.0 >>= λ y. number_to 255 c.1 >>= λ z. four w x y z)
+    ≡ ((o >>= λ p. number_to 255 p.0 >>= with_rest p.1) >>= λ b. octet_at_front b.1 >>= λ c. number_to 255 c.1 >>= λ z. four w b.0 c.0 z)
+second w None = refl
+second w (Some b) = after_second w (number_to 255 b.0) b.1
+
+after_first : (o : Option ℕ) (rest : List ℕ)
+    → (cut_at 46 rest >>= λ b. cut_at 46 b.1 >>= λ c. o >>= λ w. number_to 255 b.0 >>= λ x. number_to 255 c.0 >>= λ y. number_to 255 c.1 >>= λ z. four w x y z)
+    ≡ ((o >>= with_rest rest) >>= λ a. octet_at_front a.1 >>= λ b. octet_at_front b.1 >>= λ c. number_to 255 c.1 >>= λ z. four a.0 b.0 c.0 z)
+unfolding octet_at_front
+after_first None rest = nothing_twice (cut_at 46 rest)
+after_first (Some w) rest = second w (cut_at 46 rest)
+
+first : (o : Option (List ℕ × List ℕ))
+    → (o >>= λ a. cut_at 46 a.1 >>= λ b. cut_at 46 b.1 >>= λ c. number_to 255 a.0 >>= λ w. number_to 255 b.0 >>= λ x. number_to 255 c.0 >>= λ y. number_to 255 c.1 >>= λ z. four w x y z)
+    ≡ ((o >>= λ p. number_to 255 p.0 >>= with_rest p.1) >>= λ a. octet_at_front a.1 >>= λ b. octet_at_front b.1 >>= λ c. number_to 255 c.1 >>= λ z. four a.0 b.0 c.0 z)
+first None = refl
+first (Some a) = after_first (number_to 255 a.0) a.1
+
+-- part by part it is the same address
+pub address_of_octets : (text : List ℕ) → address_by_octets text ≡ address_of text
+unfolding address_of octet_at_front address_by_octets
+address_of_octets text = sym (first (cut_at 46 text))
+
+-- digits with a dot after them
+front : (part rest : List ℕ) → all_ascii_digits part ≡ true → has_number_form part ≡ true → folded 0 part ≤ 255
+    → octet_at_front (part ++ 46 ∷ rest) ≡ Some (folded 0 part, rest)
+unfolding octet_at_front number_to
+front part rest digits form small =
+    ap (λ o. o >>= λ p. number_to 255 p.0 >>= with_rest p.1) (cut_at-at 46 part rest (digits-differ 46 refl part digits))
+    ∙ ap (λ o. at_most 255 o >>= with_rest rest) (number_of-digits part digits form)
+    ∙ ap (λ b. cond b (Some (folded 0 part)) None >>= with_rest rest) (le-leb (folded 0 part) 255 small)
+
+-- what the patterns of the code read
+one-at : (text rest : List ℕ) → 2 ≤ length text → get_or text 1 0 ≡ 46 → rest ≡ drop 2 text → text ≡ (get_or text 0 0 ∷ []) ++ 46 ∷ rest
+one-at text rest long dot is = drop-cons text 0 0 (omega arith) ∙ ap (λ t. get_or text 0 0 ∷ t) (drop-cons text 1 0 (omega arith) ∙ (λ k. dot k ∷ sym is k))
+
+two-at : (text rest : List ℕ) → 3 ≤ length text → get_or text 2 0 ≡ 46 → rest ≡ drop 3 text → text ≡ (get_or text 0 0 ∷ get_or text 1 0 ∷ []) ++ 46 ∷ rest
+two-at text rest long dot is =
+    drop-cons text 0 0 (omega arith) ∙ ap (λ t. get_or text 0 0 ∷ t) (drop-cons text 1 0 (omega arith) ∙ ap (λ t. get_or text 1 0 ∷ t) (drop-cons text 2 0 (omega arith) ∙ (λ k. dot k ∷ sym is k)))
+
+three-at : (text rest : List ℕ) → 4 ≤ length text → get_or text 3 0 ≡ 46 → rest ≡ drop 4 text
+    → text ≡ (get_or text 0 0 ∷ get_or text 1 0 ∷ get_or text 2 0 ∷ []) ++ 46 ∷ rest
+three-at text rest long dot is =
+    drop-cons text 0 0 (omega arith) ∙ ap (λ t. get_or text 0 0 ∷ t) (drop-cons text 1 0 (omega arith) ∙ ap (λ t. get_or text 1 0 ∷ t)
+    (drop-cons text 2 0 (omega arith) ∙ ap (λ t. get_or text 2 0 ∷ t) (drop-cons text 3 0 (omega arith) ∙ (λ k. dot k ∷ sym is k))))
+
+-- a digit alone, and two or three of them, with a dot after them
+pub one_octet : (text rest : List ℕ) (n : ℕ) → 2 ≤ length text → get_or text 1 0 ≡ 46 → rest ≡ drop 2 text
+    → is_ascii_digit (get_or text 0 0) ≡ true → n ≡ get_or text 0 0 - 48 → n ≤ 255 → octet_at_front text ≡ Some (n, rest)
+one_octet text rest n long dot is digit value small =
+    ap octet_at_front (one-at text rest long dot is)
+    ∙ front (get_or text 0 0 ∷ []) rest (and_from _ _ digit refl) refl (omega arith) ∙ ap (λ m. Some (m, rest)) (omega arith)
+
+pub two_octet : (text rest : List ℕ) (n : ℕ) → 3 ≤ length text → get_or text 2 0 ≡ 46 → rest ≡ drop 3 text → (get_or text 0 0 == 48) ≡ false
+    → is_ascii_digit (get_or text 0 0) ≡ true → is_ascii_digit (get_or text 1 0) ≡ true
+    → n ≡ (get_or text 0 0 - 48) * 10 + (get_or text 1 0 - 48) → n ≤ 255 → octet_at_front text ≡ Some (n, rest)
+two_octet text rest n long dot is lead first second value small =
+    ap octet_at_front (two-at text rest long dot is)
+    ∙ front (get_or text 0 0 ∷ get_or text 1 0 ∷ []) rest (and_from _ _ first (and_from _ _ second refl)) (ap not lead) (omega arith)
+    ∙ ap (λ m. Some (m, rest)) (omega arith)
+
+pub three_octet : (text rest : List ℕ) (n : ℕ) → 4 ≤ length text → get_or text 3 0 ≡ 46 → rest ≡ drop 4 text → (get_or text 0 0 == 48) ≡ false
+    → is_ascii_digit (get_or text 0 0) ≡ true → is_ascii_digit (get_or text 1 0) ≡ true → is_ascii_digit (get_or text 2 0) ≡ true
+    → n ≡ ((get_or text 0 0 - 48) * 10 + (get_or text 1 0 - 48)) * 10 + (get_or text 2 0 - 48) → n ≤ 255 → octet_at_front text ≡ Some (n, rest)
+three_octet text rest n long dot is lead first second third value small =
+    ap octet_at_front (three-at text rest long dot is)
+    ∙ front (get_or text 0 0 ∷ get_or text 1 0 ∷ get_or text 2 0 ∷ []) rest (and_from _ _ first (and_from _ _ second (and_from _ _ third refl))) (ap not lead) (omega arith)
+    ∙ ap (λ m. Some (m, rest)) (omega arith)
+
+-- ---- The text of an address and of a prefix gives it back.
 
 -- four numbers, or none
 abbrev sum_of : Option ℕ → Option ℕ → Option ℕ → Option ℕ → Option ℕ
@@ -202,3 +313,13 @@ prefix_of_only text (Some p) e = prefix_of_sound text p (sym e)
 pub prefix_of-prefix_text : (p : Network) → IsNetwork p → prefix_of (prefix_text p) ≡ Some p
 prefix_of-prefix_text p is =
     behind p.address p.length (decimal p.length) is.small (length_of_complete (decimal p.length) p.length (is.short, inl refl)) ∙ ap (λ (a : ℕ). Some (record p { address = a })) is.clear
+
+-- ---- The text of a range of addresses gives it back.
+
+-- a range from its text
+pub reads_back : (ends : Ends) → AreEnds ends → ip_range_of (ip_range_text ends) ≡ Some ends
+unfolding ip_range_of
+reads_back ends are =
+    ap (ends_parted (ip_range_text ends)) (cut_at-at 45 (address_text ends.from) (address_text ends.to) (address_text-differs 45 ends.from refl refl are.from_small))
+    ∙ ap (λ o. o >>= λ a. address_of (address_text ends.to) >>= λ b. Some (record { from = a; to = b })) (address_of-address_text ends.from are.from_small)
+    ∙ ap (λ o. o >>= λ b. Some (record { from = ends.from; to = b })) (address_of-address_text ends.to are.to_small)

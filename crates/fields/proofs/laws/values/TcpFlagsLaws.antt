@@ -2,11 +2,9 @@
 use Rattle.std.proofs.Common.{◌≡◌, ℕ, ◌<◌, Bool, true, List, Some, refl, ap, ◌∙◌}
 use Rattle.fields.specs.Sequence.{◌>>=◌}
 use Rattle.fields.specs.values.NameList.{is_just, set_listed, names_listed}
-use Rattle.fields.specs.values.TcpFlags.{flag_names, tcp_flags_of, tcp_flags_text}
-use Rattle.fields.specs.values.FlagTest.{IsFlagTest, flag_test_of}
+use Rattle.fields.specs.values.TcpFlags.{flag_names, tcp_flags_of, tcp_flags_text, IsFlagTest, flag_test_of}
 use Rattle.fields.specs.declared.values.flag_test.FlagTest.{FlagTest}
-use Rattle.fields.proofs.laws.numbers.BelowLaws.{all_below, all_below-at, is_just-same}
-use Rattle.fields.proofs.laws.values.NameListLaws.{set_listed-lt}
+use Rattle.fields.proofs.laws.values.NameListLaws.{all_below, all_below-at, is_just-same, set_listed-lt}
 
 -- what is read is a sum of flags
 pub known : (text : List ℕ) (n : ℕ) → tcp_flags_of text ≡ Some n → n < 64

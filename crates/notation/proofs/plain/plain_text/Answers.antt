@@ -1,6 +1,6 @@
 use Rattle.std.proofs.Common.{[], ◌∷◌, ◌++◌, List, ℕ, ap, sym, subst, ◌∙◌}
-use Rattle.notation.proofs.PlainLaws.{one-end, plain-reads, put-together, two-ends}
-use Rattle.notation.specs.Plain.{end_text, mark_of}
+use Rattle.notation.proofs.IntervalTextLaws.{one-end, plain-reads, put-together, two-ends}
+use Rattle.notation.specs.IntervalText.{end_text, mark_of}
 use Rattle.notation.specs.SetText.{IsRangeText}
 use Rattle.notation.proofs.plain.plain_text.Goals as goal
 use Rattle.notation.proofs.plain.plain_text.Goals.{then-has_ranges+in_ok-push+in_ok-put_end-2, else-has_ranges}

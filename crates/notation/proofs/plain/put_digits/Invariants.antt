@@ -1,6 +1,6 @@
 use Rattle.std.proofs.Common.{◌≡◌, ◌++◌, take}
 use Rattle.std.specs.Prelude.{flat_map}
-use Rattle.notation.specs.Plain.{digits_of}
+use Rattle.notation.specs.IntervalText.{digits_of}
 use Rattle.notation.proofs.plain.put_digits.Given as goal
 
 -- the digits of the bytes so far are written

@@ -1,6 +1,6 @@
 use Rattle.std.proofs.Common.{◌≡◌, ◌++◌, List, ℕ, subst, OnOk}
 use Rattle.std.specs.Prelude.{flat_map}
-use Rattle.notation.specs.Plain.{digits_of, hexadecimal_text}
+use Rattle.notation.specs.IntervalText.{digits_of, hexadecimal_text}
 use Rattle.notation.proofs.plain.put_hexadecimal.Goals as goal
 
 pub returns : goal.returns

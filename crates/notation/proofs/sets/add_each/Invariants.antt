@@ -1,7 +1,7 @@
 use Rattle.std.proofs.Common.{◌≡◌, ℕ, ◌-◌, ◌||◌, ◌&&◌, ◌++◌, nat_le, nat_lt}
 use Rattle.std.specs.Prelude.{All}
 use Rattle.fields.specs.numbers.Spans.{has}
-use Rattle.notation.specs.Plain.{IsPart}
+use Rattle.notation.specs.IntervalText.{IsPart}
 use Rattle.notation.specs.SetText.{one_by_one}
 use Rattle.notation.proofs.sets.add_each.Given as goal
 

@@ -1,7 +1,7 @@
 use Rattle.std.proofs.Common.{◌∙◌, sym, subst, List, ℕ}
 use Rattle.std.proofs.lemmas.Bool.{false≢true}
 use Rattle.notation.specs.SetText.{IsRangeText}
-use Rattle.notation.proofs.UsualLaws.{usual-part, plain-part}
+use Rattle.notation.proofs.IntervalTextLaws.{usual-part, plain-part}
 use Rattle.notation.proofs.sets.range_text.Goals as goal
 
 pub returns-then-is_range_text : goal.returns-then-is_range_text

@@ -2,9 +2,9 @@ use Rattle.std.proofs.Common.{◌≡◌, ◌<◌, ◌++◌, Bor, List, ℕ, [], 
 use Rattle.std.specs.List.{join_with_byte}
 use Rattle.std.proofs.lemmas.List.{take_all}
 use Rattle.fields.specs.values.NameList.{names_in, names_listed}
-use Rattle.fields.proofs.laws.values.JoinLaws.{comma_after}
+use Rattle.fields.proofs.laws.text.PutLaws.{comma_after}
 use Rattle.notation.specs.Rows.{rows_of}
-use Rattle.notation.proofs.NameLaws.{names-no, names-yes, comma-yes}
+use Rattle.notation.proofs.ValueTextLaws.{names-no, names-yes, comma-yes}
 use Rattle.notation.proofs.values.put_names.Goals as goal
 use Rattle.notation.proofs.values.put_names.Goals.{then-set-bit+in_ok-extend_from_slice+in_ok-extend_from_slice-2, else-set-bit}
 

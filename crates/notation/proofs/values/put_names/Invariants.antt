@@ -1,7 +1,7 @@
 use Rattle.std.proofs.Common.{◌≡◌, ◌++◌, take}
 use Rattle.std.specs.List.{join_with_byte}
 use Rattle.fields.specs.values.NameList.{names_in}
-use Rattle.fields.proofs.laws.values.JoinLaws.{comma_after}
+use Rattle.fields.proofs.laws.text.PutLaws.{comma_after}
 use Rattle.notation.specs.Rows.{rows_of}
 use Rattle.notation.proofs.values.put_names.Given as goal
 

@@ -1,5 +1,5 @@
 use Rattle.std.proofs.Common.{refl}
-use Rattle.programs.proofs.laws.Loads.{left-is, loaded}
+use Rattle.programs.proofs.Loads.{left-is, loaded}
 use Rattle.programs.proofs.files.load_from.Goals as goal
 
 pub returns-in-Ok : goal.returns-in-Ok

@@ -1,7 +1,7 @@
 use Rattle.std.proofs.Common.{◌∙◌, rules, sym, subst}
 use denote.Enum.Bare.{same_true, same_false}
 use Rattle.clap.specs.contracts.error.kind.ErrorKind.{the_type}
-use Rattle.programs.specs.Answered.{IsReplied, version, unwritten, refused}
+use Rattle.programs.specs.Line.{IsReplied, version, unwritten, refused}
 use Rattle.programs.proofs.words.answer_refused.Goals as goal
 use Rattle.programs.proofs.words.answer_refused.Goals.{in-Ok, in-Err}
 

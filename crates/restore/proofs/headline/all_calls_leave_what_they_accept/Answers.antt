@@ -1,4 +1,4 @@
-use Rattle.restore.proofs.laws.calls.CallLaws.{calls_leave, refused_calls}
+use Rattle.restore.proofs.laws.CallLaws.{calls_leave, refused_calls}
 use Rattle.restore.proofs.headline.all_calls_leave_what_they_accept.Goals as goal
 
 pub returns-clause-leave : goal.returns-clause-leave

@@ -1,14 +1,26 @@
--- A line of an edit is the line of a command: its table may be named, and another name is none.
-use Rattle.std.proofs.Common.{◌≡◌, ℕ, Bool, true, false, ◌||◌, List, [], ◌∷◌, map, find, option_map, refl, sym, ◌∙◌, ap, codes}
-use Rattle.std.proofs.Common.{Option, Some, None, Result, Ok, Err, if◌then◌else◌}
+-- A line of an edit is the line of a command, and what is answered to it where memory runs out.
+use Rattle.std.proofs.Common.{◌≡◌, sym, subst, Result, ℕ, Bool, true, false, ◌||◌, List, [], ◌∷◌, map, find, option_map, refl, ◌∙◌, ap, codes, Option, Some, None, Ok, Err, if◌then◌else◌}
 use Rattle.std.specs.Str.{bytes_eq}
+use Rattle.std.proofs.lemmas.Bool.{false≢true}
+use Rattle.table.specs.edits.Edits.{Edit, Append, Has, DeleteRule, Insert, Replace}
+use Rattle.rules.specs.rule.Rules.{Rule}
+use Rattle.rules.specs.reading.Steps.{rule_of}
 use Rattle.rules.specs.declared.reading.fault.Refusal.TheVariants as refusal
-use Rattle.table.specs.edits.Edits.{Edit}
-use Rattle.restore.specs.Sequence.{made_into, refused_as}
-use Rattle.restore.specs.commands.Command.{Change, Command, CommandFault, OtherTable}
-use Rattle.restore.specs.commands.CommandForms.{CommandForm, Reader, again, changing, edit_of, edits, followed, is_name_of, line_of, named, one_of}
-use Rattle.restore.specs.commands.CommandForms.{or_second, refused, table, value}
-use Rattle.restore.proofs.laws.commands.NameFormLaws.{found}
+use Rattle.restore.specs.commands.Command.{Command, CommandFault, IsRead, Change, OtherTable, NoCommand, TwoCommands, WordCount, is_out_of_memory, may_be_of_rule, may_take_memory, has_rule}
+use Rattle.restore.specs.Sequence.{made_into, refused_as, ◌>>=◌}
+use Rattle.restore.specs.commands.CommandForms.{CommandForm, Reader, again, changing, edit_of, edits, followed, is_name_of, line_of, named, one_of, or_second, refused, table, value, takes}
+use Rattle.restore.specs.declared.command.Command as code
+use Rattle.restore.specs.commands.Command as command
+use Rattle.restore.specs.commands.CommandForms as forms
+use Rattle.restore.proofs.laws.commands.NextLaws.{found}
+
+-- ---- What a call answers, and what the definition gives.
+
+-- the same answer to an equal question
+pub along : (r : Result code.Command CommandFault) (a b : Result Command CommandFault) → a ≡ b → IsRead r b → IsRead r a
+along r a b is = subst (λ x. IsRead r x) (sym is)
+
+-- ---- A line of an edit is the line of a command: its table may be named, and another name is none.
 
 -- two readers read the same: one an edit, the other the command that it is
 abbrev SameReader : Reader Edit → Reader Command → Type 0
@@ -73,3 +85,36 @@ pub edit_is : (end : ℕ) (ws : List (List ℕ))
 unfolding edit_of
 edit_is end ws =
     refused_later (or_second end ws) Change (line_of edits end ws) ∙ ap (refused_as (or_second end ws)) (line_changed edits end ws)
+
+-- ---- Memory runs out in the reading of a rule alone.
+
+-- a fault that says that memory ran out may be of a rule
+pub of_rule : (f : CommandFault) → is_out_of_memory f ≡ true → may_be_of_rule f ≡ true
+of_rule NoCommand is = absurd (false≢true is)
+of_rule TwoCommands is = refl
+of_rule WordCount is = absurd (false≢true is)
+of_rule OtherTable is = absurd (false≢true is)
+of_rule (command.Rule fault) is = refl
+
+-- memory may be taken where the words are a rule
+rules_take : (k : Rule → Edit) → ((r : Rule) → has_rule (k r) ≡ true) → (end : ℕ) (ws : List (List ℕ))
+    → may_take_memory (made_into Change (takes (forms.Rule ∷ []) k end ws)) ≡ true
+rules_take k has end ws = elim (rule_of end ws) as (λ q. may_take_memory (made_into Change (refused_as refused q >>= λ r. Ok (k r))) ≡ true) [
+  | Ok r ↦ has r
+  | Err f ↦ refl
+]
+
+pub appended : (chain : List ℕ) (end : ℕ) (ws : List (List ℕ)) → may_take_memory (made_into Change (takes (forms.Rule ∷ []) (Append chain) end ws)) ≡ true
+appended chain end ws = rules_take (Append chain) (λ r. refl) end ws
+
+pub checked : (chain : List ℕ) (end : ℕ) (ws : List (List ℕ)) → may_take_memory (made_into Change (takes (forms.Rule ∷ []) (Has chain) end ws)) ≡ true
+checked chain end ws = rules_take (Has chain) (λ r. refl) end ws
+
+pub deleted : (chain : List ℕ) (end : ℕ) (ws : List (List ℕ)) → may_take_memory (made_into Change (takes (forms.Rule ∷ []) (DeleteRule chain) end ws)) ≡ true
+deleted chain end ws = rules_take (DeleteRule chain) (λ r. refl) end ws
+
+pub inserted : (chain : List ℕ) (n end : ℕ) (ws : List (List ℕ)) → may_take_memory (made_into Change (takes (forms.Rule ∷ []) (Insert chain n) end ws)) ≡ true
+inserted chain n end ws = rules_take (Insert chain n) (λ r. refl) end ws
+
+pub replaced : (chain : List ℕ) (n end : ℕ) (ws : List (List ℕ)) → may_take_memory (made_into Change (takes (forms.Rule ∷ []) (Replace chain n) end ws)) ≡ true
+replaced chain n end ws = rules_take (Replace chain n) (λ r. refl) end ws

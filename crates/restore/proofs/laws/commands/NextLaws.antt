@@ -1,13 +1,35 @@
--- The words of a command, one after another.
-use Rattle.std.proofs.Common.{◌≡◌, inl, inr, ℕ, suc, ◌+◌, ◌<◌, ◌≤◌, Bool, true, false, if◌then◌else◌, refl, sym, ◌∙◌, ap, add-one}
-use Rattle.std.proofs.Common.{List, [], ◌∷◌, length, drop, slice_get, get_or, Option, Some, None, Result, Ok, Err}
+-- The words of a command, one after another: its name among the heads, what it takes, and a second command among them.
+use Rattle.std.proofs.Common.{◌≡◌, ℕ, Bool, true, false, List, [], ◌∷◌, map, find, option_map, refl, sym, ◌∙◌, ap, Option, Some, if◌then◌else◌, inl, inr, suc, ◌+◌, ◌<◌, ◌≤◌, add-one, length, drop, slice_get, get_or, None, Result, Ok, Err, ◌-◌, max, arith, is_some}
 use Rattle.std.proofs.Math.Seq.{drop-cons}
-use Rattle.std.proofs.lemmas.List.{drop_all}
+use Rattle.std.proofs.lemmas.List.{drop_all, drop-drop, length-drop}
 use Rattle.std.proofs.lemmas.Option.{get_or_from_slice_get, slice_get_cases, slice_get_within}
+use Rattle.std.proofs.lemmas.Bool.{cases_lt}
+use Rattle.restore.specs.commands.CommandForms.{followed, is_name_of, Reader, Word, if_fits◌then◌else◌, is_digits, takes, is_command, word_at}
+use Rattle.restore.specs.steps.Reading.{row_of, next_number, next_number_if_digits, next_or}
 use Rattle.restore.specs.Sequence.{made_into}
 use Rattle.restore.specs.commands.Command.{CommandFault, WordCount}
-use Rattle.restore.specs.commands.CommandForms.{Reader, Word, if_fits◌then◌else◌, is_digits, takes}
-use Rattle.restore.specs.steps.Reading.{next_number, next_number_if_digits, next_or}
+use Rattle.restore.specs.declared.command.name.TheConstants.CommandName.{ALL}
+use Rattle.restore.specs.declared.command.name.CommandName as code
+
+-- ---- The heads of the code, among the rows of the table of heads.
+
+-- what is found among the values of a function
+pub found : {A B : Type 0} (f : A → B) (p : B → Bool) (xs : List A) → find p (map f xs) ≡ option_map f (find (λ x. p (f x)) xs)
+found f p [] = refl
+found f p (x ∷ xs) =
+    elim (p (f x)) as (λ b. (if b then Some (f x) else find p (map f xs)) ≡ option_map f (if b then Some x else find (λ x. p (f x)) xs)) [
+      | true ↦ refl
+      | false ↦ found f p xs
+    ]
+
+-- what follows the name of a head that is found among these, or is not
+pub followed_by : (hs : List code.CommandName) (w : List ℕ) (o : Option code.CommandName) (end : ℕ) (rest : List (List ℕ))
+    → o ≡ find (λ h. is_name_of w (row_of h)) hs
+    → followed (find (is_name_of w) (map row_of hs)) end rest ≡ followed (option_map row_of o) end rest
+followed_by hs w o end rest is =
+    ap (λ f. followed f end rest) (found row_of (is_name_of w) hs ∙ ap (λ f. option_map row_of f) (sym is))
+
+-- ---- The words of a command, one after another.
 
 -- the words from the place of a word on
 drop_next : (ws : List (List ℕ)) (n : ℕ) (w : List ℕ) → slice_get ws n ≡ Some w → drop n ws ≡ w ∷ drop (n + 1) ws
@@ -81,3 +103,39 @@ digits_next ws n w r here digits is =
     let front : drop n ws ≡ w ∷ drop (n + 1) ws = drop_next ws n w here in
     ap (λ r. made_into (λ p. Some p) r) (is ∙ ap next_number front)
     ∙ sym (ap next_number_if_digits front ∙ ap (by_digits w (drop (n + 1) ws)) digits)
+
+-- ---- A second command among the words of a rule.
+
+-- how far behind the front of the words that are left, which are the last of the line, a place of the line is
+abbrev behind : List (List ℕ) → ℕ → ℕ → ℕ
+behind ws from place = place - (length ws - length (drop from ws))
+
+-- places counted from the front of the words that are left, and from that of the line
+same_rest : (ws : List (List ℕ)) (from place : ℕ) → drop (behind ws from place) (drop from ws) ≡ drop (max from place) ws
+same_rest ws from place =
+    elim (cases_lt (length ws) from) [
+      | inl beyond ↦
+          (let e : drop from ws ≡ [] = drop_all from ws (omega (arith, beyond)) in
+          let rest : length (drop from ws) ≤ behind ws from place = omega (arith, length-drop from ws, beyond) in
+          drop_all (behind ws from place) (drop from ws) rest ∙ sym (drop_all (max from place) ws (omega (arith, beyond))))
+      | inr within ↦
+          (let e : from + behind ws from place ≡ max from place = omega (arith, length-drop from ws, within) in
+          drop-drop (behind ws from place) from ws ∙ ap (λ n. drop n ws) e)
+    ]
+
+-- the word of the rule at a place of the line is the next one there
+pub word_seen : (fault : CommandFault) (ws : List (List ℕ)) (from place at : ℕ) (r : Result (List ℕ × List (List ℕ)) CommandFault)
+    → at ≡ max from place → r ≡ next_or fault (drop at ws) → word_of r ≡ word_at (length ws) (drop from ws) place
+word_seen fault ws from place at r there is =
+    ap word_of (is ∙ ap (λ n. next_or fault (drop n ws)) there)
+    ∙ sym (word_there fault (drop from ws) (behind ws from place) ∙ ap (λ l. word_of (next_or fault l)) (same_rest ws from place))
+
+is_some_later : {A B : Type 0} (f : A → B) (o : Option A) → is_some o ≡ is_some (option_map f o)
+is_some_later f None = refl
+is_some_later f (Some x) = refl
+
+-- a word names a command where one of the heads is found
+pub names_command : (w : List ℕ) (o : Option code.CommandName)
+    → o ≡ find (λ h. is_name_of w (row_of h)) ALL → is_some o ≡ is_command (Some w)
+names_command w o is =
+    is_some_later row_of o ∙ ap is_some (ap (λ f. option_map row_of f) is ∙ sym (found row_of (is_name_of w) ALL))

@@ -1,38 +1,83 @@
--- What the lines of a listing ask, and that they are done where the table lets them.
-use Rattle.std.proofs.Common.{◌≡◌, ℕ, ◌≤◌, Bool, true, false, cond, ◌&&◌, not, List, [], ◌∷◌, ◌++◌, length, Option, Some, None, refl, ap, ◌∙◌, arith}
-use Rattle.rules.proofs.laws.printing.TextLaws.{bare-from}
+-- What the lines of a listing ask, that they are done where the table lets them, and lines done one after another.
+use Rattle.std.proofs.Common.{◌≡◌, ℕ, suc, ◌-◌, false, cond, List, [], ◌∷◌, ◌++◌, length, take, drop, sym, ap, subst, ◌∙◌, arith, ◌≤◌, Bool, true, ◌&&◌, not, Option, Some, None, refl}
 use Rattle.std.specs.Prelude.{Result, Ok, Err, codes, nat_lt, nat_le, All}
-use Rattle.std.specs.FinSet as set
-use Rattle.std.proofs.lemmas.Bool.{and_parts, cond-true, leb-true, le-ltb}
+use Rattle.std.proofs.Math.Seq.{take-append_seam}
 use Rattle.std.proofs.lemmas.List.{length-append}
+use Rattle.std.proofs.lemmas.Bool.{and_parts, cond-true, leb-true, le-ltb}
 use Rattle.std.proofs.lemmas.List.Elements.{All-cons, All-nil}
-use Rattle.fields.specs.text.OneLine.{IsOneLine}
+use Rattle.std.specs.FinSet as set
+use Rattle.table.specs.chains.Table.{Table, has_chain, is_built_in}
+use Rattle.rules.proofs.laws.printing.TextLaws.{bare-from}
+use Rattle.fields.specs.text.Line.{IsOneLine}
 use Rattle.fields.specs.text.Printed.{Shown, bare, IsBareWord, IsPrintable}
 use Rattle.fields.specs.text.Words.{words_of}
 use Rattle.fields.specs.values.Name.{has_name_form, is_name, is_target_word, name_of}
-use Rattle.fields.proofs.laws.text.OneLineLaws.{found_line}
-use Rattle.fields.proofs.laws.text.PrintedLaws.{words_of-spaced_all}
+use Rattle.fields.proofs.laws.text.PrintedLaws.{found_line, words_of-spaced_all}
 use Rattle.fields.proofs.laws.values.BareLaws.{name_is_bare}
-use Rattle.rules.specs.printing.Printing.{rule_text}
-use Rattle.rules.specs.printing.RoundTrip.{IsListedLine}
+use Rattle.rules.specs.Printing.{rule_text, IsListedLine}
 use Rattle.rules.specs.reading.Steps.{rule_of}
 use Rattle.rules.specs.rule.Rules.{Rule}
 use Rattle.rules.specs.declared.reading.fault.Refusal.{Refusal}
-use Rattle.table.specs.chains.Table.{Table, has_chain, is_built_in}
 use Rattle.table.specs.edits.Edits.{Edit, Append, Flush, NewChain, SetPolicy, step}
-use Rattle.table.specs.edits.Made.{policy_text}
+use Rattle.table.specs.edits.Headline.{policy_text}
 use Rattle.table.specs.declared.fault.TableFault.{TableFault}
 use Rattle.table.specs.declared.policy.Policy.{Policy}
 use Rattle.table.specs.declared.policy.Policy.TheVariants.{Accept, Drop}
 use Rattle.restore.specs.Sequence.{◌>>=◌, made_into, or_refused, refused_as}
+use Rattle.restore.specs.sections.Section.{RestoreFault, LineTooLong, Section, inside, is_too_long, line_in, lines_in, Command, OfTable, BadChainLine, DuplicateChainLine, Quoting, Asked, asked, asked_by, asks_nothing, by_chain_line, by_command, chain_edit, chain_line, done, is_none_word, is_quiet, may_be_policy, with_name}
+use Rattle.restore.specs.sections.Restore.{Restore, Restoring, SectionState, Between, Building, committed, is_commit, line_at, moved, restore_line, restore_lines}
 use Rattle.restore.specs.commands.Command.{CommandFault}
 use Rattle.restore.specs.commands.CommandForms.{edit_of, or_second, refused}
-use Rattle.restore.specs.listings.Listing.{policy_word}
-use Rattle.restore.specs.sections.Section.{RestoreFault, Command, OfTable, BadChainLine, DuplicateChainLine, LineTooLong, Quoting}
-use Rattle.restore.specs.sections.Section.{Section, Asked, asked, asked_by, asks_nothing}
-use Rattle.restore.specs.sections.Section.{by_chain_line, by_command, chain_edit, chain_line, done}
-use Rattle.restore.specs.sections.Section.{is_none_word, is_quiet, is_too_long, line_in, may_be_policy, with_name}
-use Rattle.restore.proofs.laws.listings.RunLaws.{IsDone}
+use Rattle.restore.specs.Listing.{policy_word}
+
+-- ---- Lines of a section that are done one after another, in a section and in a restore.
+
+-- a line is done in a section
+pub record IsDone (s : Section) (line : List ℕ) (next : Section) : Type 0 where
+  pub short : is_too_long line ≡ false
+  pub within : is_commit line ≡ false
+  pub done : line_in s line ≡ Ok next
+
+-- and lines, one after another
+abbrev pub Runs : Section → List (List ℕ) → Section → Type 0
+Runs s [] last = s ≡ last
+Runs s (line ∷ lines) last = (next : Section) × IsDone s line next × Runs next lines last
+
+pub runs_append : (s mid last : Section) (xs ys : List (List ℕ)) → Runs s xs mid → Runs mid ys last → Runs s (xs ++ ys) last
+runs_append s mid last [] ys first second = let P : Section → Type 0 = λ q. Runs q ys last in subst P (sym first) second
+runs_append s mid last (x ∷ xs) ys (next, is, more) second = (next, is, runs_append next mid last xs ys more second)
+
+pub runs_in_section : (s last : Section) (lines : List (List ℕ)) → Runs s lines last → lines_in s lines ≡ Ok last
+runs_in_section s last [] runs = ap Ok runs
+runs_in_section s last (x ∷ xs) (next, is, more) =
+    ap (λ (q : Result Section RestoreFault). q >>= λ m. lines_in m xs) is.done ∙ runs_in_section next last xs more
+
+-- a restore stands there, with this table in place
+abbrev pub standing : Table → SectionState → Restoring
+standing t state = record { table = t; restore = record { noflush = false; test = false; state = state } }
+
+line_built : (t : Table) (s next : Section) (line : List ℕ) → IsDone s line next
+    → restore_line (standing t (Building s)).restore t line ≡ Ok (standing t (Building next))
+unfolding restore_line
+line_built t s next line is =
+    let r : Restore = (standing t (Building s)).restore in
+    ap (λ b. cond b (Err LineTooLong) (line_at (Building s) r t line)) is.short
+    ∙ ap (λ b. cond b (Ok (moved (committed r.test t s) r Between)) (made_into (λ (q : Section). moved t r (Building q)) (line_in s line))) is.within
+    ∙ ap (made_into (λ (q : Section). moved t r (Building q))) is.done
+
+pub runs_in_restore : (t : Table) (s last : Section) (lines rest : List (List ℕ)) → Runs s lines last
+    → restore_lines (standing t (Building s)) (lines ++ rest) ≡ restore_lines (standing t (Building last)) rest
+runs_in_restore t s last [] rest runs = ap (λ (q : Section). restore_lines (standing t (Building q)) rest) runs
+runs_in_restore t s last (x ∷ xs) rest (next, is, more) =
+    ap (λ (q : Result Restoring RestoreFault). q >>= λ m. restore_lines m (xs ++ rest)) (line_built t s next x is) ∙ runs_in_restore t next last xs rest more
+
+-- what stands between the first and the last
+pub inside_is : {A : Type 0} (first last : A) (xs : List A) → inside (first ∷ (xs ++ last ∷ [])) ≡ xs
+inside_is first last xs =
+    let long : length (first ∷ (xs ++ last ∷ [])) - 1 ≡ suc (length xs) = omega (arith, length-append xs (last ∷ [])) in
+    ap (λ n. drop 1 (take n (first ∷ (xs ++ last ∷ [])))) long ∙ take-append_seam xs (last ∷ [])
+
+-- ---- What the lines of a listing ask, and that they are done where the table lets them.
 
 -- Any line
 

@@ -1,6 +1,6 @@
 -- The chains of a sound table, by their places.
 use Rattle.std.proofs.Common.{◌≡◌, ◌⊎◌, inl, inr, ℕ, zero, suc, ◌+◌, ◌<◌, Bool, true, false, ◌||◌, List, [], ◌∷◌, ◌++◌, length, get_or, drop, refl, sym, ◌∙◌, ap, subst, arith, Option, Some, None, is_some, codes}
-use Rattle.fields.proofs.laws.packet.GivenLaws.{is_none-of}
+use Rattle.fields.proofs.laws.PacketLaws.{is_none-of}
 use Rattle.table.proofs.laws.chains.KeepLaws.{itself_not_before}
 use Rattle.std.specs.Prelude.{All, AllPairs, filter, flat_map, position, slice_get, option_and_then}
 use Rattle.std.specs.List.{list_any}
@@ -15,8 +15,8 @@ use Rattle.std.proofs.lemmas.Slice.Eq.{bytes_eq-Decides}
 use Rattle.table.specs.chains.Sound.{AreListed, IsSound, IsUserName}
 use Rattle.table.specs.chains.Table.{Chain, Table, built_in_names, chain_at, comes_before, empty_chain, is_built_in, is_named, names_of, policy_of}
 use Rattle.table.specs.declared.policy.Policy.{Policy}
-use Rattle.restore.specs.listings.Listing.{head_line, listed_chains, rule_lines, rules_listing}
-use Rattle.fields.proofs.laws.PlaceLaws.{any_is}
+use Rattle.restore.specs.Listing.{head_line, listed_chains, rule_lines, rules_listing}
+use Rattle.fields.proofs.laws.ListLaws.{any_is}
 
 -- Names differ
 

@@ -10,10 +10,9 @@ use Rattle.restore.specs.Sequence.{◌>>=◌, or_refused, made_into, refused_as}
 use Rattle.restore.specs.commands.Command as command
 use Rattle.restore.specs.commands.Command.{Change, CommandFault, command_puts}
 use Rattle.restore.specs.commands.CommandForms.{edit_of}
-use Rattle.restore.specs.sections.Boxes.{asks_put, edit_puts, line_puts}
+use Rattle.restore.specs.sections.Lines.{asks_put, edit_puts, line_puts}
 use Rattle.restore.specs.sections.Restore.{Building, SectionState, is_commit}
-use Rattle.restore.specs.sections.Section.{Asked, BadChainLine, DuplicateChainLine, LineTooLong, NotAllowed, OfTable, Quoting, RestoreFault, Section}
-use Rattle.restore.specs.sections.Section.{asked, asked_by, asked_of_chain, asked_of_command, asks_nothing, begins_with, by_chain_line, chain_edit, chain_line, checked_policy, is_none_word, is_quiet, is_too_long, may_be_policy, policy_word, without_counters}
+use Rattle.restore.specs.sections.Section.{Asked, BadChainLine, DuplicateChainLine, LineTooLong, NotAllowed, OfTable, Quoting, RestoreFault, Section, asked, asked_by, asked_of_chain, asked_of_command, asks_nothing, begins_with, by_chain_line, chain_edit, chain_line, checked_policy, is_none_word, is_quiet, is_too_long, may_be_policy, policy_word, without_counters}
 use Rattle.restore.proofs.laws.sections.CommandLaws.{asked_is}
 
 -- a command puts a rule into a chain just where its words ask for that

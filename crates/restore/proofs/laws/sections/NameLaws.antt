@@ -9,7 +9,7 @@ use Rattle.std.specs.List.{list_any}
 use Rattle.std.specs.Ordering.{nat_cmp, eq_by_cmp, match_ordering}
 use Rattle.std.specs.declared.cmp.Ordering.{Ordering}
 use Rattle.std.specs.declared.cmp.Ordering.TheVariants.{Less, Equal, Greater}
-use Rattle.restore.specs.sections.Names.{Names}
+use Rattle.restore.specs.sections.Section.{Names}
 
 -- one name is another
 abbrev is_name : List ℕ → List ℕ → Bool

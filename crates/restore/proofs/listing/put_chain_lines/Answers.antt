@@ -1,7 +1,7 @@
 use Rattle.std.proofs.Common.{[], arith}
 use Rattle.fields.proofs.laws.text.PutLaws.{puts-stopped, stopped-at}
 use Rattle.table.specs.chains.Table.{empty_chain}
-use Rattle.restore.specs.listings.Listing.{chain_line}
+use Rattle.restore.specs.Listing.{chain_line}
 use Rattle.restore.proofs.listing.put_chain_lines.Goals as goal
 
 pub returns-in_err-put_chain_line : goal.returns-in_err-put_chain_line

@@ -1,7 +1,7 @@
 use Rattle.std.proofs.Common.{[], arith}
 use Rattle.fields.proofs.laws.text.PutLaws.{puts-stopped, stopped-at}
 use Rattle.table.specs.chains.Table.{empty_chain}
-use Rattle.restore.specs.listings.Listing.{head_line}
+use Rattle.restore.specs.Listing.{head_line}
 use Rattle.restore.proofs.listing.put_heads.Goals as goal
 
 pub returns-in_err-put_head : goal.returns-in_err-put_head

@@ -1,6 +1,6 @@
 use Rattle.std.proofs.Common.{take, flat_map}
 use Rattle.fields.specs.text.Tap.{Wrote}
-use Rattle.restore.specs.listings.Listing.{head_line}
+use Rattle.restore.specs.Listing.{head_line}
 use Rattle.restore.proofs.listing.put_heads.Given as goal
 
 abbrev pub invariant-loop-place : goal.invariant-loop-place

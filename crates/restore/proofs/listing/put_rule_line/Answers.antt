@@ -1,6 +1,6 @@
 use Rattle.std.proofs.Common.{◌++◌, codes, refl}
 use Rattle.fields.proofs.laws.text.PutLaws.{puts-after, stops-in}
-use Rattle.rules.specs.printing.Printing.{rule_text}
+use Rattle.rules.specs.Printing.{rule_text}
 use Rattle.restore.proofs.listing.put_rule_line.Goals as goal
 
 pub returns-in_err-put : goal.returns-in_err-put

@@ -2,7 +2,7 @@ use Rattle.std.proofs.Common.{◌≡◌, ◌+◌, ◌-◌, ◌∙◌, ℕ, List,
 use Rattle.fields.specs.text.Tap.{Stopped}
 use Rattle.fields.proofs.laws.text.PutLaws.{puts-stopped, stopped-item}
 use Rattle.table.specs.chains.Table.{chain_at}
-use Rattle.restore.specs.listings.Listing.{rule_line}
+use Rattle.restore.specs.Listing.{rule_line}
 use Rattle.restore.proofs.listing.put_rules.Goals as goal
 
 pub returns-in_err-put_rule_line : goal.returns-in_err-put_rule_line

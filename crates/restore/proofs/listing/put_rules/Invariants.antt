@@ -1,7 +1,7 @@
 use Rattle.std.proofs.Common.{take, flat_map}
 use Rattle.fields.specs.text.Tap.{Wrote}
 use Rattle.table.specs.chains.Table.{chain_at}
-use Rattle.restore.specs.listings.Listing.{rule_line}
+use Rattle.restore.specs.Listing.{rule_line}
 use Rattle.restore.proofs.listing.put_rules.Given as goal
 
 abbrev pub invariant-loop-number : goal.invariant-loop-number

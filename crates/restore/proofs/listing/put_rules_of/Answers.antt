@@ -2,7 +2,7 @@ use Rattle.std.proofs.Common.{ℕ, List, subst, sym}
 use Rattle.fields.specs.text.Tap.{Wrote}
 use Rattle.fields.proofs.laws.text.PutLaws.{puts-after, stops-in, wrote-nothing}
 use Rattle.table.specs.chains.Table.{chain_at}
-use Rattle.restore.specs.listings.Listing.{head_line, rule_lines}
+use Rattle.restore.specs.Listing.{head_line, rule_lines}
 use Rattle.restore.proofs.laws.listings.PlaceLaws.{listing_of_none, listing_of_one}
 use Rattle.restore.proofs.listing.put_rules_of.Goals as goal
 

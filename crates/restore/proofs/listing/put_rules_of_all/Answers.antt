@@ -1,6 +1,6 @@
 use Rattle.std.proofs.Common.{flat_map, refl}
 use Rattle.fields.proofs.laws.text.PutLaws.{puts-after, stops-in}
-use Rattle.restore.specs.listings.Listing.{head_line, rule_lines}
+use Rattle.restore.specs.Listing.{head_line, rule_lines}
 use Rattle.restore.proofs.listing.put_rules_of_all.Goals as goal
 
 pub returns-in_err-put_heads : goal.returns-in_err-put_heads

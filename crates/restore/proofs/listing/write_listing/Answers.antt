@@ -1,6 +1,6 @@
 use Rattle.std.proofs.Common.{◌++◌, codes, flat_map, refl}
 use Rattle.fields.proofs.laws.text.PutLaws.{puts-after, stops-in}
-use Rattle.restore.specs.listings.Listing.{chain_line, rule_lines}
+use Rattle.restore.specs.Listing.{chain_line, rule_lines}
 use Rattle.restore.proofs.listing.write_listing.Goals as goal
 
 pub returns-in_err-put : goal.returns-in_err-put

@@ -1,5 +1,5 @@
 use Rattle.std.proofs.Common.{◌∙◌, sym}
-use Rattle.restore.proofs.laws.sections.CommitLaws.{not_allowed}
+use Rattle.restore.proofs.laws.sections.ByteLaws.{not_allowed}
 use Rattle.restore.proofs.restore.between.Goals as goal
 
 pub returns-then-is_commit-clause-step : goal.returns-then-is_commit-clause-step

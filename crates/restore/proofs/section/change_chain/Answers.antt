@@ -1,6 +1,6 @@
 use Rattle.std.proofs.Common.{◌∙◌, sym}
 use Rattle.table.specs.edits.Edits.{NewChain}
-use Rattle.restore.proofs.laws.sections.ChainLaws.{answer_of_room, done_new}
+use Rattle.restore.proofs.laws.sections.CommandLaws.{answer_of_room, done_new}
 use Rattle.restore.proofs.section.change_chain.Goals as goal
 
 pub returns : goal.returns

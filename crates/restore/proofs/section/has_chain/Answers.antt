@@ -1,6 +1,6 @@
 use Rattle.std.proofs.Common.{◌∙◌, ap, is_some}
 use Rattle.table.specs.chains.Table.{is_named}
-use Rattle.fields.proofs.laws.PlaceLaws.{any_is}
+use Rattle.fields.proofs.laws.ListLaws.{any_is}
 use Rattle.restore.proofs.section.has_chain.Goals as goal
 
 pub returns : goal.returns

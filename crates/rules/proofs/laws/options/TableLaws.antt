@@ -10,7 +10,7 @@ use Rattle.fields.specs.text.Printed.{Shown}
 use Rattle.rules.specs.options.Matches.{all_kinds, kind_of, kind_name}
 use Rattle.rules.specs.options.Options.{all_options, option_of, name_of, value_count}
 use Rattle.rules.specs.options.OptionValues.{option_of_value}
-use Rattle.rules.specs.printing.Printing.{shown_value}
+use Rattle.rules.specs.Printing.{shown_value}
 use Rattle.rules.specs.declared.options.match_kind.MatchKind.{MatchKind}
 use Rattle.rules.specs.declared.options.match_kind.MatchKind.TheVariants as kind
 use Rattle.rules.specs.declared.options.option.Opt.{Opt}

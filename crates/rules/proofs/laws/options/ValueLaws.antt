@@ -1,11 +1,11 @@
 -- A value that was read is good: its text gives it back.
 use Rattle.std.proofs.Common.{◌≡◌, ℕ, ◌+◌, ◌*◌, ◌<◌, ◌≤◌, ◌==◌, Bool, true, false, cond, ◌&&◌, List, [], ◌∷◌, length, Option, None, Some, refl, sym, ap, subst, ◌∙◌, arith, append-nil, length-append, le-ltb}
-use Rattle.fields.proofs.laws.packet.PacketLaws.{interface_is_text}
+use Rattle.fields.proofs.laws.PacketLaws.{interface_is_text}
 use Rattle.rules.proofs.laws.printing.TextLaws.{word-more}
 use Rattle.std.specs.Prelude.{Result, Ok, Err, nat_lt}
 use Rattle.fields.specs.Sequence as options
 use Rattle.fields.specs.values.ConnectionState.{ctstate_of, state_of, states_text}
-use Rattle.fields.specs.values.FlagTest.{flag_test_of}
+use Rattle.fields.specs.values.TcpFlags.{flag_test_of, tcp_flags_of, tcp_flags_text}
 use Rattle.fields.specs.values.Icmp.{icmp_of, icmp_text}
 use Rattle.fields.specs.values.Interface.{interface_of}
 use Rattle.fields.specs.values.IpRange.{ip_range_of, ip_range_text}
@@ -13,11 +13,10 @@ use Rattle.fields.specs.values.LogLevel.{log_level_of, log_level_text}
 use Rattle.fields.specs.values.PortList.{port_list_of, port_list_text}
 use Rattle.fields.specs.values.PortRange.{port_range_of, ports_text}
 use Rattle.fields.specs.values.Prefix.{prefix_of, prefix_text}
-use Rattle.fields.specs.text.OneLine.{IsOneLine}
+use Rattle.fields.specs.text.Line.{IsOneLine}
 use Rattle.fields.specs.text.Printed.{bare, as_text, spaced, spaced_all, ArePrintable}
 use Rattle.fields.specs.values.Protocol.{protocol_of, protocol_text}
 use Rattle.fields.specs.values.RejectType.{reject_of, reject_text}
-use Rattle.fields.specs.values.TcpFlags.{tcp_flags_of, tcp_flags_text}
 use Rattle.fields.specs.values.FreeText.{text_of}
 use Rattle.fields.specs.values.Ttl.{ttl_of, ttl_text}
 use Rattle.fields.specs.declared.values.flag_test.FlagTest.{FlagTest}
@@ -25,7 +24,7 @@ use Rattle.fields.proofs.laws.values.ConnectionStateLaws.{are_states, ctstate_re
 use Rattle.fields.proofs.laws.text.CutLaws.{step_before, same_some}
 use Rattle.fields.proofs.laws.values.IcmpLaws as icmp
 use Rattle.fields.proofs.laws.values.IcmpLaws.{is_asked}
-use Rattle.fields.proofs.laws.values.IpRangeLaws as range
+use Rattle.fields.proofs.laws.values.PrefixLaws as range
 use Rattle.fields.proofs.laws.values.LogLevelLaws as level
 use Rattle.fields.proofs.laws.values.PortListLaws as list
 use Rattle.fields.proofs.laws.values.PortListLaws.{port_list_of-is}
@@ -39,7 +38,7 @@ use Rattle.fields.proofs.laws.values.TtlLaws as ttl
 use Rattle.rules.specs.Sequence.{◌>>=◌, or_refused}
 use Rattle.rules.specs.options.Options.{first_of, may_be_inverted, owner, slot}
 use Rattle.rules.specs.options.OptionValues.{option_of_value, read_as, text_as, text_within, with_opposite, value_of}
-use Rattle.rules.specs.printing.Printing.{one, shown_value}
+use Rattle.rules.specs.Printing.{one, shown_value}
 use Rattle.rules.specs.declared.reading.fault.Refusal.{Refusal}
 use Rattle.rules.specs.declared.reading.fault.Refusal.TheVariants as refusal
 use Rattle.rules.specs.declared.options.option.Opt.{Opt}

@@ -25,8 +25,8 @@ use Rattle.fields.specs.text.Number.{number_to}
 use Rattle.fields.specs.values.PortList.{IsPortList, port_count, port_list_text}
 use Rattle.fields.specs.values.PortRange.{Ports, ArePorts, ports_between, port_of, port_or, range_parted, port_range_of, ports_text}
 use Rattle.fields.specs.values.Prefix.{Network, IsNetwork, IsPrefixText, alone, with_length, with_mask, block_size, network, address_of, prefix_of, address_text, prefix_text}
-use Rattle.fields.specs.text.OneLine.{IsOneLine, is_one_line}
-use Rattle.fields.proofs.laws.text.OneLineLaws.{one_line_is}
+use Rattle.fields.specs.text.Line.{IsOneLine, is_one_line}
+use Rattle.fields.proofs.laws.text.PrintedLaws.{one_line_is}
 use Rattle.fields.specs.text.Printed.{IsBareWord}
 use Rattle.fields.specs.values.Protocol.{protocols, number_in, protocol_number, protocol_name, one_protocol_of, protocol_of, named_or_decimal, protocol_text}
 use Rattle.fields.specs.values.RejectType.{reject_text}
@@ -41,7 +41,7 @@ use Rattle.fields.specs.declared.values.reject.RejectType.{RejectType}
 use Rattle.fields.specs.declared.values.reject.RejectType.TheVariants as reject
 use Rattle.fields.specs.text.Words.{is_bare}
 use Rattle.fields.proofs.laws.values.BareLaws.{some-bytes, decimal-bare, joined, ports-bare, list_is_bare, is_bare_word, protocol_is_bare, interface_is_bare, name_is_bare}
-use Rattle.fields.proofs.laws.numbers.BelowLaws.{all_below, all_below-at}
+use Rattle.fields.proofs.laws.values.NameListLaws.{all_below, all_below-at}
 use Rattle.fields.proofs.laws.text.CutLaws.{step_before, same_some}
 use Rattle.fields.proofs.laws.values.InterfaceLaws.{interface_of-form}
 use Rattle.fields.proofs.laws.ListLaws.{find-passes}

@@ -8,7 +8,7 @@ use Rattle.rules.specs.options.Matches.{kind_name}
 use Rattle.rules.specs.options.Options.{name_of}
 use Rattle.rules.specs.options.OptionValues.{option_of_value}
 use Rattle.rules.specs.rule.Rules.{Match, Rule}
-use Rattle.rules.specs.printing.Printing.{shown_value, shown_bang, shown_option_value, shown_option_values, shown_match, shown_action, rule_text}
+use Rattle.rules.specs.Printing.{shown_value, shown_bang, shown_option_value, shown_option_values, shown_match, shown_action, rule_text}
 use Rattle.rules.specs.steps.Writing.{has_words, value_text, option_value_text, start_text, match_text, action_text}
 use Rattle.rules.specs.steps.Views as views
 use Rattle.rules.specs.declared.rule.spec.Match as code

@@ -2,7 +2,7 @@
 use Rattle.std.proofs.Common.{◌≡◌, ℕ, ◌+◌, ◌<◌, ◌≤◌, Bool, true, false, cond, List, [], ◌∷◌, ◌++◌, length, flat_map, Option, None, Some, refl, sym, ap, subst, ◌∙◌, arith, append_assoc, append-nil, set}
 use Rattle.std.specs.Prelude.{Result, Ok, Err, codes}
 use Rattle.std.proofs.lemmas.List.{map-append, length-append}
-use Rattle.std.proofs.lemmas.Bool.{lt-leb}
+use Rattle.std.proofs.lemmas.Bool.{lt-leb, or_parts, not-true}
 use Rattle.std.proofs.Math.Seq.{get_or-append_seam, set-append_seam}
 use Rattle.fields.specs.text.Printed.{Shown}
 use Rattle.rules.specs.Sequence.{◌>>=◌, or_refused}
@@ -12,9 +12,8 @@ use Rattle.rules.specs.options.OptionValues.{option_of_value, slot_of}
 use Rattle.rules.specs.rule.Actions.{action_of, jump_to, is_action_of}
 use Rattle.fields.specs.values.Name as chain
 use Rattle.rules.specs.rule.Rules.{Match, Rule, empty_rule}
-use Rattle.rules.specs.printing.Printing.{shown_value, shown_option_values, shown_match, shown_action, shown_rule}
-use Rattle.rules.specs.reading.Steps.{with_option, with_match, with_jump, with_goto, step, owned_step, with_option_values, with_matches, with_action, with_target_options, last_with, match_for, at_match_or_new, with_option_at, no_match, has_goto, has_jump, with_needs_met, unless_unmet, rule_of}
-use Rattle.rules.specs.reading.OptionWords.{OptionWords}
+use Rattle.rules.specs.Printing.{shown_value, shown_option_values, shown_match, shown_action, shown_rule}
+use Rattle.rules.specs.reading.Steps.{with_option, with_match, with_jump, with_goto, step, owned_step, with_option_values, with_matches, with_action, with_target_options, last_with, match_for, at_match_or_new, with_option_at, no_match, has_goto, has_jump, with_needs_met, unless_unmet, rule_of, OptionWords}
 use Rattle.rules.specs.rule.Needs.{unmet}
 use Rattle.rules.proofs.laws.reading.Readable.{ReadsBack, Each, OfRule, OfMatch, OfAction, ActionBack, IsMatch, IsLegal, IsReadable}
 use Rattle.rules.specs.declared.reading.fault.Refusal.{Refusal}
@@ -30,12 +29,9 @@ use Rattle.rules.specs.declared.options.option_value.OptionValue.{OptionValue}
 use Rattle.rules.specs.declared.rule.action.Action.{Action}
 use Rattle.rules.specs.declared.rule.action.Action.TheVariants as action
 use Rattle.std.specs.Str.{bytes_eq}
-use Rattle.std.proofs.lemmas.Bool.{or_parts, not-true}
 use Rattle.rules.proofs.laws.options.WordForms.{name-form}
 use Rattle.rules.proofs.laws.options.TableLaws.{plain, kind_of-kind_name}
-use Rattle.rules.proofs.laws.reading.OptionWordsLaws.{the_option_words, option_words_at-words_of_option, Continues, continues-nothing, continues-then, continues-option}
-use Rattle.rules.proofs.laws.reading.StepLaws.{last_with-end}
-use Rattle.rules.proofs.laws.reading.GroupLaws.{Below, with_option-end, option_values-read}
+use Rattle.rules.proofs.laws.reading.StepLaws.{the_option_words, option_words_at-words_of_option, Continues, continues-nothing, continues-then, continues-option, last_with-end, Below, with_option-end, option_values-read}
 
 false-true : false ≡ true → ⊥
 false-true e = cc

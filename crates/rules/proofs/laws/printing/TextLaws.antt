@@ -1,13 +1,11 @@
 -- The text of a readable rule is cut into its words, and is short.
 use Prim.Native.Nat.{zero, suc}
-use Rattle.rules.proofs.laws.reading.OrderLaws.{false-true}
+use Rattle.rules.proofs.laws.reading.Readable.{false-true, value_room, ReadsBack, Each, Rises, IsGroup, OfRule, OfMatch, OfAction, ActionBack, IsMatch, IsLegal}
 use Rattle.std.proofs.Common.{◌≡◌, ℕ, ◌+◌, ◌*◌, ◌≤◌, Bool, true, false, ◌||◌, not, List, [], ◌∷◌, ◌++◌, length, get_or, flat_map, Option, None, Some, refl, sym, ap, ◌∙◌, arith, length-append}
-use Rattle.std.specs.Prelude.{codes, nat_lt, nat_le}
-use Rattle.std.specs.List.{list_all}
+use Rattle.std.specs.Prelude.{codes, nat_lt, nat_le, ◌≢◌}
+use Rattle.std.specs.List.{list_all, All}
 use Rattle.std.proofs.lemmas.Bool.{and_parts, leb-true, ltb-true}
 use Rattle.std.proofs.lemmas.Grind.{flat_map-append}
-use Rattle.std.specs.List.{All}
-use Rattle.std.specs.Prelude.{◌≢◌}
 use Rattle.std.proofs.lemmas.List.Elements.{All-append, All-nil}
 use Rattle.fields.specs.text.Words.{is_bare, words_of}
 use Rattle.fields.specs.text.Printed.{Shown, bare, spelling, spaced, spaced_all, IsBareWord, IsPrintable, ArePrintable}
@@ -18,7 +16,7 @@ use Rattle.rules.specs.options.Options.{all_options, name_of, may_be_inverted, o
 use Rattle.rules.specs.options.OptionValues.{option_of_value, slot_of}
 use Rattle.rules.specs.rule.Actions.{is_action_of}
 use Rattle.rules.specs.rule.Rules.{Match, Rule}
-use Rattle.rules.specs.printing.Printing.{one, shown_value, shown_bang, shown_option_value, shown_option_values, shown_match, shown_action, shown_rule, rule_text}
+use Rattle.rules.specs.Printing.{one, shown_value, shown_bang, shown_option_value, shown_option_values, shown_match, shown_action, shown_rule, rule_text}
 use Rattle.rules.specs.declared.rule.action.Action.{Action}
 use Rattle.rules.specs.declared.rule.action.Action.TheVariants as action
 use Rattle.rules.specs.declared.options.match_kind.MatchKind.{MatchKind}
@@ -27,7 +25,6 @@ use Rattle.rules.specs.declared.options.option.Opt.{Opt}
 use Rattle.rules.specs.declared.options.option.Owner.{Owner}
 use Rattle.rules.specs.declared.options.option.Owner.TheVariants as owned
 use Rattle.rules.specs.declared.options.option_value.OptionValue.{OptionValue}
-use Rattle.rules.proofs.laws.reading.Readable.{value_room, ReadsBack, Each, Rises, IsGroup, OfRule, OfMatch, OfAction, ActionBack, IsMatch, IsLegal}
 use Rattle.rules.proofs.laws.options.TableLaws.{plain, each_option, each_kind}
 use Rattle.rules.proofs.laws.options.WordForms.{name-word}
 

@@ -9,13 +9,12 @@ use Rattle.std.proofs.lemmas.List.{length-append, length-take-le}
 use Rattle.rules.specs.Sequence.{◌>>=◌}
 use Rattle.rules.specs.options.Options.{option_of, value_count, may_be_inverted}
 use Rattle.rules.specs.rule.Rules.{Rule, empty_rule}
-use Rattle.rules.specs.reading.Steps.{step, steps_from, with_needs_met, rule_of}
-use Rattle.rules.specs.reading.OptionWords.{OptionWords, with_values, inverted_words, plain_words, after_bang, option_words_at}
+use Rattle.rules.specs.reading.Steps.{step, steps_from, with_needs_met, rule_of, OptionWords, with_values, inverted_words, plain_words, after_bang, option_words_at}
 use Rattle.rules.specs.reading.Grammar.{spelled_words, BeginsWith, AreOptions, ReadsAs, IsRefused, HasFault}
 use Rattle.rules.specs.declared.reading.fault.Refusal.{Refusal}
 use Rattle.rules.specs.declared.reading.fault.Refusal.TheVariants as refusal
 use Rattle.rules.specs.declared.options.option.Opt.{Opt}
-use Rattle.rules.proofs.laws.reading.OptionWordsLaws.{the_option_words, takes_values, Continues, continues-nothing, continues-then, continues-option}
+use Rattle.rules.proofs.laws.reading.StepLaws.{the_option_words, takes_values, Continues, continues-nothing, continues-then, continues-option}
 
 -- no option is spelled `!`
 bang-none : option_of (codes "!") ≡ None

@@ -1,6 +1,6 @@
 -- What is read is readable: a step keeps a rule's parts legal, and so does what the end makes of it.
 use Prim.Native.Nat.{zero, suc}
-use Rattle.rules.proofs.laws.reading.OrderLaws.{false-true}
+use Rattle.rules.proofs.laws.reading.Readable.{false-true, ReadsBack, Each, Rises, IsGroup, OfRule, OfMatch, OfAction, ActionBack, IsMatch, IsLegal}
 use Rattle.std.proofs.Common.{◌≡◌, ℕ, ◌+◌, ◌<◌, ◌≤◌, ◌==◌, Bool, true, false, cond, ◌&&◌, List, [], ◌∷◌, ◌++◌, length, get_or, set, Option, None, Some, refl, sym, ap, subst, ◌∙◌, arith, ltb, leb, eq-eqb, length-append}
 use Rattle.std.specs.Prelude.{Result, Ok, Err, codes}
 use Rattle.std.specs.Str.{bytes_eq}
@@ -14,8 +14,7 @@ use Rattle.rules.specs.options.Options.{first_of, may_be_inverted, owner, slot, 
 use Rattle.rules.specs.options.OptionValues.{option_of_value, slot_of, value_of}
 use Rattle.rules.specs.rule.Actions.{action_of, jump_to, is_action_of}
 use Rattle.rules.specs.rule.Rules.{Match, Rule, empty_rule}
-use Rattle.rules.specs.reading.Steps.{with_option, with_match, later, last_with, implied_match, is_implied_option, with_match_for, at_match_or_new, match_for, no_match, with_option_at, with_option_values, with_matches, with_action, with_target_options, has_goto, has_jump, with_jump, with_goto, match_step, owned_step, step, is_given, insert_by_place}
-use Rattle.rules.specs.reading.OptionWords.{OptionWords}
+use Rattle.rules.specs.reading.Steps.{with_option, with_match, later, last_with, implied_match, is_implied_option, with_match_for, at_match_or_new, match_for, no_match, with_option_at, with_option_values, with_matches, with_action, with_target_options, has_goto, has_jump, with_jump, with_goto, match_step, owned_step, step, is_given, insert_by_place, OptionWords}
 use Rattle.rules.specs.rule.Needs.{is_met_for}
 use Rattle.rules.specs.declared.rule.action.Action.{Action}
 use Rattle.rules.specs.declared.rule.action.Action.TheVariants as action
@@ -26,7 +25,6 @@ use Rattle.rules.specs.declared.options.option.Opt.{Opt}
 use Rattle.rules.specs.declared.options.option.Owner.{Owner}
 use Rattle.rules.specs.declared.options.option.Owner.TheVariants as owned
 use Rattle.rules.specs.declared.options.option_value.OptionValue.{OptionValue}
-use Rattle.rules.proofs.laws.reading.Readable.{ReadsBack, Each, Rises, IsGroup, OfRule, OfMatch, OfAction, ActionBack, IsMatch, IsLegal}
 use Rattle.rules.proofs.laws.options.ValueLaws.{value_of-good}
 use Rattle.rules.proofs.laws.options.WordForms.{name-valid}
 

@@ -13,8 +13,7 @@ use Rattle.rules.specs.options.Options.{owner}
 use Rattle.rules.specs.options.OptionValues.{option_of_value, slot_of, read_as, value_of, is_trivial, is_condition}
 use Rattle.rules.specs.rule.Rules.{Match, Rule, empty_rule, match_default, action_default, or_default, normal_match, normal_form}
 use Rattle.rules.specs.reading.Grammar.{AreOptions}
-use Rattle.rules.specs.reading.Steps.{steps_from, unless_unmet, with_needs_met, rule_of}
-use Rattle.rules.specs.reading.OptionWords.{OptionWords}
+use Rattle.rules.specs.reading.Steps.{steps_from, unless_unmet, with_needs_met, rule_of, OptionWords}
 use Rattle.rules.specs.rule.Needs.{unmet}
 use Rattle.rules.specs.declared.rule.action.Action.{Action}
 use Rattle.rules.specs.declared.rule.action.Action.TheVariants as action

@@ -1,6 +1,6 @@
 -- What a rule asks of interfaces, it asks by options of its own; where it asks nothing, it allows all.
 use Rattle.std.proofs.Common.{◌≡◌, ℕ, Bool, true, false, cond, ◌==◌, ◌&&◌, ◌||◌, not, List, [], ◌∷◌, refl, sym, ap, ◌∙◌}
-use Rattle.rules.proofs.laws.reading.OrderLaws.{false-true}
+use Rattle.rules.proofs.laws.reading.Readable.{false-true, Each, OfMatch, IsMatch}
 use Rattle.std.specs.List.{list_all, list_any}
 use Rattle.std.proofs.lemmas.Bool.{or_parts, and_from}
 use Rattle.fields.specs.declared.numbers.field.Field.{Field}
@@ -10,12 +10,11 @@ use Rattle.rules.specs.options.Options.{owner, is_match_of}
 use Rattle.rules.specs.options.OptionValues.{option_of_value}
 use Rattle.rules.specs.rule.Rules.{Match, Rule}
 use Rattle.rules.specs.rule.Allows.{field_of, holds_of, same_field, is_on, asks, asks_on, option_value_allows, fragment_allows, match_allows, allows}
-use Rattle.rules.specs.printing.RoundTrip.{ReadsItself}
+use Rattle.rules.specs.Printing.{ReadsItself}
 use Rattle.rules.specs.declared.options.match_kind.MatchKind.{MatchKind}
 use Rattle.rules.specs.declared.options.option_value.OptionValue.{OptionValue}
 use Rattle.rules.specs.declared.options.value.Value.{Value}
 use Rattle.rules.specs.declared.options.value.Value.TheVariants as value
-use Rattle.rules.proofs.laws.reading.Readable.{Each, OfMatch, IsMatch}
 use Rattle.rules.proofs.laws.printing.RoundTripLaws.{readable}
 
 -- no option of a match asks on an interface

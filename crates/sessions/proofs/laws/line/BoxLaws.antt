@@ -4,10 +4,10 @@ use Rattle.std.proofs.lemmas.Bool.{false≢true}
 use Rattle.fields.specs.text.Line.{IsHeld}
 use Rattle.fields.specs.text.Words.{words_of}
 use Rattle.table.specs.chains.Table.{Table, TableView}
-use Rattle.table.specs.edits.Boxes.{MakesOneBox}
+use Rattle.table.specs.edits.Edits.{MakesOneBox}
 use Rattle.restore.specs.Sequence.{◌>>=◌, or_refused}
 use Rattle.restore.specs.declared.fault.RestoreFault.TheVariants.{LineTooLong, Quoting}
-use Rattle.restore.specs.sections.Boxes.{line_puts}
+use Rattle.restore.specs.sections.Lines.{line_puts}
 use Rattle.restore.specs.sections.Restore.{Restore}
 use Rattle.restore.specs.sections.Section.{is_quiet, is_too_long}
 use Rattle.sessions.specs.line.Boxes.{asks_put, is_said, makes_box, may_box}

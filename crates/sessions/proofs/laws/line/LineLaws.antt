@@ -17,11 +17,10 @@ use Rattle.sessions.specs.line.Fault.{Line as OfLine, NoMemory, of_line}
 use Rattle.sessions.specs.line.Request.{Nothing, request_of, request_on}
 use Rattle.sessions.specs.line.Outcome.{Mode, Outside, AfterFault, InRestore, Outcome, ended, fails, is_end, needs_no_memory, restore_outcome, execute, executed, silent, outcome}
 use Rattle.sessions.specs.line.Executed.{IsOutcome, IsOutcomeOf}
-use Rattle.sessions.specs.steps.Comes.{Comes, RanOut}
+use Rattle.sessions.specs.steps.Lines.{Comes, RanOut}
 use Rattle.sessions.specs.declared.reply.answer.Answer.TheVariants as answers
 use Rattle.sessions.specs.declared.line.outcome.Outcome as made
-use Rattle.sessions.proofs.laws.line.ResultLaws.{err_is, ok_is, ok≢err}
-use Rattle.sessions.proofs.laws.line.OutcomeLaws.{fails_on, fails_outcome, silent_outcome}
+use Rattle.sessions.proofs.laws.line.OutcomeLaws.{err_is, ok_is, ok≢err, fails_on, fails_outcome, silent_outcome}
 
 -- the line isn't marked
 unmarked : (text : List ℕ) (mode : Mode) (old new : TableView) (t : made.Outcome) → IsOutcome (executed old.table mode text) new t → IsOutcomeOf text mode old new t

@@ -1,25 +1,79 @@
--- What the code makes of a line outside of restores is what the definition says.
-use Rattle.std.proofs.Common.{◌≡◌, inl, inr, ℕ, Bool, true, false, cond, List, refl, sym, ap, subst, ◌∙◌, Some, None, Result, Ok, Err}
-use Rattle.std.specs.Bool.{MatchBool}
+-- What the code makes of a line outside of restores is what the definition says, and the chain of a name stands at its place.
+use Rattle.std.proofs.Common.{◌≡◌, true, false, Bool, Result, Ok, Err, sym, ap, ℕ, zero, suc, ◌<◌, cond, List, [], ◌∷◌, length, get_or, ◌∙◌, Option, Some, is_some, arith, inl, inr, refl, subst, None}
+use Rattle.std.proofs.lemmas.Bool.{false≢true}
 use Rattle.std.specs.List.{position}
-use Rattle.table.specs.chains.Table.{Table, TableView, has_chain, is_named, rules_of}
+use Rattle.std.proofs.lemmas.List.Quantifiers.{position-Some}
+use Rattle.std.proofs.lemmas.Slice.Eq.{bytes_eq-Decides}
+use Rattle.std.specs.Bool.{MatchBool}
+use Rattle.fields.proofs.laws.ListLaws.{any_is}
+use Rattle.table.specs.chains.Table.{Chain, Table, chain_at, empty_chain, has_chain, is_named, rules_of, TableView}
 use Rattle.table.specs.edits.Edits.{Answers, Edit, IsStepIfRoom, may_grow, step as table_step}
 use Rattle.table.specs.declared.fault.TableFault.{TableFault}
 use Rattle.table.specs.declared.fault.TableFault.TheVariants.{NoSuchChain, NoMemory as OutOfMemory}
 use Rattle.restore.specs.commands.Command.{Command, Change, ListRules, IsApplied, IsChange}
 use Rattle.restore.specs.declared.fault.RestoreFault.TheVariants.{Table as OfTable}
-use Rattle.restore.specs.listings.Listing.{rules_listing}
+use Rattle.restore.specs.Listing.{rules_listing}
 use Rattle.sessions.specs.line.Fault.{Fault, of_line}
 use Rattle.sessions.specs.line.Request.{Run}
 use Rattle.sessions.specs.line.Outcome.{Says, Mode, Outside, Outcome, after_fault, edit_outcome, fails, on_chain, execute, silent, outcome_with}
-use Rattle.sessions.specs.reply.Lines.{lines_reply}
+use Rattle.sessions.specs.Replies.{lines_reply}
 use Rattle.sessions.specs.line.Executed.{HasChain, IsReply, IsOutcome}
-use Rattle.sessions.specs.steps.Comes.{Comes}
+use Rattle.sessions.specs.steps.Lines.{Comes}
 use Rattle.sessions.specs.declared.reply.answer.Answer.{Answer}
 use Rattle.sessions.specs.declared.reply.answer.Answer.TheVariants as answers
 use Rattle.sessions.specs.declared.line.outcome.Outcome as made
-use Rattle.sessions.proofs.laws.line.ResultLaws.{err_is, ok≢err}
-use Rattle.sessions.proofs.laws.line.PlaceLaws.{is_at, there_is}
+
+-- ---- Answers and faults.
+
+-- an answer is no fault
+pub ok≢err : {A E : Type 0} (x : A) (e : E) → Ok x ≡ Err e → ⊥
+ok≢err {A = A} {E = E} x e is = false≢true (sym (ap (λ (r : Result A E). let b : Bool = elim r [ Ok y ↦ true | Err f ↦ false ] in b) is))
+
+-- equal faults
+pub err_is : {A E : Type 0} (e f : E) → (let r : Result A E = Err e in r) ≡ Err f → e ≡ f
+err_is {A = A} {E = E} e f is = ap (λ (r : Result A E). let x : E = elim r [ Ok y ↦ e | Err g ↦ g ] in x) is
+
+-- equal answers
+pub ok_is : {A E : Type 0} (a b : A) → (let r : Result A E = Ok a in r) ≡ Ok b → a ≡ b
+ok_is {A = A} {E = E} a b is = ap (λ (r : Result A E). let x : A = elim r [ Ok y ↦ y | Err g ↦ a ] in x) is
+
+-- ---- The chain of a name stands at its place.
+
+-- a chain of the name is there exactly where one has a place
+pub there_is : (t : Table) (name : List ℕ) (place : Option ℕ) → place ≡ position (is_named name) t.chains → has_chain t name ≡ is_some place
+there_is t name place is = sym (any_is (is_named name) t.chains) ∙ ap is_some (sym is)
+
+-- the chain of a name, by its place
+pub record IsAt (t : Table) (name : List ℕ) (place : ℕ) : Type 0 where
+  pub within : place < length t.chains
+  pub there : has_chain t name ≡ true
+  pub name_is : (chain_at t place).name ≡ name
+  pub rules_are : rules_of t.chains name ≡ (chain_at t place).rules
+
+named : (chain : Chain) (name : List ℕ) → is_named name chain ≡ true → chain.name ≡ name
+named chain name is = (bytes_eq-Decides chain.name name).0 is
+
+-- the rules are those of the first chain of the name
+rules_at : (chains : List Chain) (name : List ℕ) (k : ℕ) (d : Chain) → k < length chains → is_named name (get_or chains k d) ≡ true
+    → ((j : ℕ) → j < k → is_named name (get_or chains j d) ≡ false) → rules_of chains name ≡ (get_or chains k d).rules
+rules_at [] name k d within is first = absurd (omega (arith, within))
+rules_at (chain ∷ chains) name zero d within is first = ap (λ (b : Bool). cond b chain.rules (rules_of chains name)) is
+rules_at (chain ∷ chains) name (suc k) d within is first =
+    ap (λ (b : Bool). cond b chain.rules (rules_of chains name)) (first 0 (omega arith))
+    ∙ rules_at chains name k d (omega (arith, within)) is (λ j below. first (suc j) (omega (arith, below)))
+
+pub is_at : (t : Table) (name : List ℕ) (place : ℕ) → Some place ≡ position (is_named name) t.chains → IsAt t name place
+is_at t name place is =
+    let d : Chain = empty_chain [] in
+    let at = position-Some (is_named name) t.chains place d (sym is) in
+    record {
+      within = at.0;
+      there = there_is t name (Some place) is;
+      name_is = named (chain_at t place) name at.1;
+      rules_are = rules_at t.chains name place d at.0 at.1 at.2;
+    }
+
+-- ---- What the code makes of a line outside of restores is what the definition says.
 
 -- an outcome of these parts
 pub outcome_of : (said : Outcome) (new : TableView) (t : made.Outcome) (mode : Mode) (reply : Result Answer Fault) → t.mode ≡ mode → t.reply ≡ reply

@@ -1,19 +1,19 @@
--- What the lines of a run leave of a session's table.
-use Rattle.std.proofs.Common.{◌≡◌, ℕ, ◌+◌, List, ◌++◌, fold, IfSome, Result, ap, sym, subst, ◌∙◌}
+-- What the lines of a run leave of a session's table, and what several runs leave.
+use Rattle.std.proofs.Common.{◌≡◌, ℕ, ◌+◌, List, ◌++◌, fold, IfSome, Result, ap, sym, subst, ◌∙◌, [], ◌∷◌}
 use Rattle.table.specs.edits.Headline.{ChainsHaveOneListOfClassifiers}
 use Rattle.table.specs.chains.Table.{AreClassified, Table, TableView}
-use Rattle.table.specs.walk.Trail.{Shows}
-use Rattle.table.specs.walk.Walk.{walk}
+use Rattle.table.specs.walk.Walk.{Shows, walk}
+use Rattle.restore.specs.Changes.{changed_by}
+use Rattle.restore.proofs.laws.CallLaws.{changed_then}
 use Rattle.sessions.specs.line.Outcome.{Line, Reply, reply_text}
-use Rattle.restore.specs.calls.Changes.{changed_by}
 use Rattle.sessions.specs.run.Accepted.{accepted}
 use Rattle.sessions.specs.run.Run.{Moment, RunFault, Runs}
-use Rattle.sessions.specs.run.Headline.{AnswersByWalks, Done, Headline, IsReadIn, IsWritten, PacketsWereWalked, RefusedChangedNothing, Stands}
+use Rattle.sessions.specs.run.Headline.{AnswersByWalks, Done, Headline, IsReadIn, IsWritten, PacketsWereWalked, RefusedChangedNothing, Stands, Follow, OfEach, Run, RunsLeaveWhatTheyAccept, accepted_by, accepted_in}
 use Rattle.sessions.specs.run.Session.{Kind, OfRestore, OfSession, State, finish_of, start_of, step}
-use Rattle.sessions.proofs.laws.run.AcceptedLaws.{restore_leaves, session_leaves}
-use Rattle.sessions.proofs.laws.run.KeptLaws.{packet_is_walked, refused_changes_nothing}
-use Rattle.sessions.proofs.laws.run.LeadLaws.{fold_of}
-use Rattle.sessions.proofs.laws.run.WrittenLaws.{is_written, leads_to}
+use Rattle.sessions.proofs.laws.run.AcceptedLaws.{restore_leaves, session_leaves, packet_is_walked, refused_changes_nothing}
+use Rattle.sessions.proofs.laws.run.WrittenLaws.{fold_of, is_written, leads_to}
+
+-- ---- What the lines of a run leave of a session's table.
 
 -- equal tables have one list of classifiers
 one_view : ChainsHaveOneListOfClassifiers → (old new : TableView) → new.table ≡ old.table → AreClassified old.table.chains old.classifiers → AreClassified new.table.chains new.classifiers → new ≡ old
@@ -67,4 +67,38 @@ run_headline one kind before after lines r runs stands =
       walks = walks_through (changed_by before.table.table (accepted start lines)) after.table leaves;
       packets = packets_walked start done writes;
       refused = refused_changed one start done writes;
+    }
+
+-- ---- What several runs leave.
+
+chains_are : (old new : TableView) (runs : List Run) → Follow old runs new → new.table ≡ changed_by old.table (accepted_by old.table runs)
+chains_are old new [] h = ap (λ (v : TableView). v.table) h
+chains_are old new (run ∷ runs) h =
+    let left = changed_by old.table (accepted_in old.table run) in
+    chains_are h.0 new runs h.2 ∙ ap (λ (t : Table). changed_by t (accepted_by t runs)) h.1.chains
+    ∙ sym (changed_then old.table (accepted_in old.table run) (accepted_by left runs))
+
+stand : (old new : TableView) (runs : List Run) → Stands old → Follow old runs new → Stands new
+stand old new [] stands h = subst Stands (sym h) stands
+stand old new (run ∷ runs) stands h = stand h.0 new runs h.1.stands h.2
+
+packets_of : (old new : TableView) (runs : List Run) → Follow old runs new → OfEach PacketsWereWalked old.table runs
+packets_of old new [] h = tt
+packets_of old new (run ∷ runs) h =
+    (h.1.packets, subst (λ (t : Table). OfEach PacketsWereWalked t runs) h.1.chains (packets_of h.0 new runs h.2))
+
+refused_of : (old new : TableView) (runs : List Run) → Follow old runs new → OfEach RefusedChangedNothing old.table runs
+refused_of old new [] h = tt
+refused_of old new (run ∷ runs) h =
+    (h.1.refused, subst (λ (t : Table). OfEach RefusedChangedNothing t runs) h.1.chains (refused_of h.0 new runs h.2))
+
+pub runs_leave : RunsLeaveWhatTheyAccept
+runs_leave old new runs h =
+    let is = chains_are old new runs h in
+    record {
+      chains = is;
+      stands = λ stands. stand old new runs stands h;
+      walks = walks_through (changed_by old.table (accepted_by old.table runs)) new is;
+      packets = packets_of old new runs h;
+      refused = refused_of old new runs h;
     }

@@ -1,11 +1,29 @@
--- What was printed up to a line of a run was written.
-use Rattle.std.proofs.Common.{◌≡◌, ◌⊎◌, inl, inr, ℕ, List, [], ◌∷◌, ◌++◌, Result, Ok, Err, refl, sym, ap, subst, ◌∙◌, append_assoc, append-nil}
+-- Lines that lead from one state to another, and that what was printed up to a line of a run was written.
+use Rattle.std.proofs.Common.{◌≡◌, ℕ, Bool, false, List, [], ◌∷◌, ◌++◌, fold, sym, ap, subst, ◌⊎◌, inl, inr, Result, Ok, Err, refl, ◌∙◌, append_assoc, append-nil}
+use Rattle.std.proofs.lemmas.List.{map-append}
 use Rattle.fields.specs.text.Tap.{IsBeginning}
-use Rattle.sessions.specs.line.Outcome.{Line}
-use Rattle.sessions.specs.run.Headline.{IsReadIn, IsWritten}
+use Rattle.sessions.specs.line.Outcome.{Line, has_ended}
 use Rattle.sessions.specs.run.Run.{Lead, Moment, ReadFailed, RunFault, Runs, WriteFailed}
-use Rattle.sessions.specs.run.Session.{Kind, OfRestore, OfSession, State, finish_of, step}
-use Rattle.sessions.proofs.laws.run.LeadLaws.{lead_more}
+use Rattle.sessions.specs.run.Session.{State, step, texts_of, Kind, OfRestore, OfSession, finish_of}
+use Rattle.sessions.specs.run.Headline.{IsReadIn, IsWritten}
+
+-- ---- Lines that lead from one state to another.
+
+-- lines lead where their steps go
+pub fold_of : (from to : State) (lines : List Line) → Lead from lines to → fold step from lines ≡ to
+fold_of from to [] h = sym h
+fold_of from to (line ∷ lines) h = fold_of (step from line) to lines h.1
+
+-- and one line more
+pub lead_more : (from s : State) (lines : List Line) (line : Line) → Lead from lines s → has_ended s.now.mode ≡ false → Lead from (lines ++ line ∷ []) (step s line)
+lead_more from s [] line h going = (subst (λ (x : State). has_ended x.now.mode ≡ false) h going, ap (λ (x : State). step x line) h)
+lead_more from s (first ∷ lines) line h going = (h.0, lead_more (step from first) s lines line h.1 going)
+
+-- the texts of lines and of one line more
+pub texts_more : (lines : List Line) (text : List ℕ) (refused : Bool) → texts_of (lines ++ record { text = text; refused = refused } ∷ []) ≡ texts_of lines ++ text ∷ []
+texts_more lines text refused = map-append (λ (l : Line). l.text) lines (record { text = text; refused = refused } ∷ [])
+
+-- ---- What was printed up to a line of a run was written.
 
 -- Beginnings
 

@@ -1,5 +1,4 @@
-use Rattle.table.proofs.laws.edits.MemoryLaws.{never_memory}
-use Rattle.table.proofs.laws.edits.TableLaws.{calls_leave, refused_changes_nothing, one_list}
+use Rattle.table.proofs.laws.edits.AnswerLaws.{never_memory, calls_leave, refused_changes_nothing, one_list}
 use Rattle.table.proofs.headline.calls_leave_what_they_accept.Goals as goal
 
 pub returns : goal.returns

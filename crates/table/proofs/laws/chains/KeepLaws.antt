@@ -1,10 +1,9 @@
 -- Edits of one chain's rules lead from sound tables to sound tables.
-use Rattle.std.proofs.Common.{◌≡◌, ◌⊎◌, inl, inr, ℕ, zero, suc, ◌<◌, ◌≤◌, Bool, true, false, ◌||◌, not, List, [], ◌∷◌, length, get_or, take, map, refl, sym, ◌∙◌, ap, arith, subst, Some, Contains}
+use Rattle.std.proofs.Common.{◌≡◌, ◌⊎◌, inl, inr, ℕ, zero, suc, ◌<◌, ◌≤◌, Bool, true, false, ◌||◌, not, List, [], ◌∷◌, length, get_or, take, map, refl, sym, ◌∙◌, ap, arith, subst, Some, Contains, Ordering, codes}
 use Rattle.std.specs.Prelude.{All, AllPairs, filter, IsTrue}
 use Rattle.std.specs.List.{list_any}
 use Rattle.std.specs.Str.{bytes_eq}
 use Rattle.std.specs.Ordering.{is_eq, is_lt, nat_cmp}
-use Rattle.std.proofs.Common.{Ordering, codes}
 use Rattle.std.specs.declared.cmp.Ordering.TheVariants.{Less, Equal, Greater}
 use Rattle.std.specs.Cmp.Lexicographic.{slice_cmp}
 use Rattle.std.proofs.lemmas.Bool.{cases_Bool, cond-true, cond-false, false≢true}
@@ -15,8 +14,7 @@ use Rattle.rules.specs.rule.Rules.{Rule}
 use Rattle.table.specs.chains.Table.{Chain, Table, names_of, built_in_names, is_built_in, is_named, is_user, user_chains, comes_before, rules_of, chain_named_by}
 use Rattle.table.specs.edits.Edits.{leads, changed_chain, changed}
 use Rattle.table.specs.chains.Sound.{HasNoLoop, IsTarget, MayStand, IsSoundChain, IsUserName, AreListed, IsSound}
-use Rattle.table.proofs.laws.chains.PathLaws.{Mem, Differing}
-use Rattle.table.proofs.laws.chains.SoundLaws.{put_no_loop, take_no_loop}
+use Rattle.table.proofs.laws.chains.SoundLaws.{Mem, Differing, put_no_loop, take_no_loop}
 
 -- Names stay
 

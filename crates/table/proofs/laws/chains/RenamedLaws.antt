@@ -13,21 +13,17 @@ use Rattle.fields.specs.values.Name.{is_name}
 use Rattle.rules.specs.declared.options.option_value.OptionValue.{OptionValue}
 use Rattle.rules.specs.declared.rule.action.Action.{Action}
 use Rattle.rules.specs.declared.rule.action.Action.TheVariants as action
-use Rattle.rules.specs.printing.RoundTrip.{TextReadsBack, RenamedReadsBack}
+use Rattle.rules.specs.Printing.{TextReadsBack, RenamedReadsBack}
 use Rattle.rules.specs.rule.Actions.{action_with_chain_name, target_with, with_chain_name}
 use Rattle.rules.specs.rule.Allows.{asks_on}
 use Rattle.rules.specs.rule.Rules.{Rule}
 use Rattle.table.specs.chains.Table.{Chain, Table, built_in_names, names_of, is_built_in, is_named, has_chain, user_chains, rules_of, chain_in, chain_named_by, is_this, names}
 use Rattle.table.specs.edits.Edits.{Rename, edited, causes, fault_of, no_such_chain, built_in, bad_name, exists_already, placed, without, moved, renamed_rule, renamed_chain, asks_absent_interface}
 use Rattle.table.specs.chains.Sound.{Names, Path, IsTarget, MayStand, IsSoundChain, IsUserName, AreListed, IsSound}
-use Rattle.table.proofs.laws.chains.ChainLaws.{has_more, all_placed_chain, users_placed, no_built_in}
+use Rattle.table.proofs.laws.chains.StepLaws.{has_more, all_placed_chain, users_placed, no_built_in, first_clear, none_holds}
 use Rattle.table.proofs.laws.chains.KeepLaws.{has_by_names, is_user_name, listed_differ, users_by_names}
-use Rattle.table.proofs.laws.chains.OrderLaws.{names_placed, placed_listed}
-use Rattle.table.proofs.laws.chains.PlaceLaws.{differing_at, rules_at}
-use Rattle.table.proofs.laws.chains.RestLaws.{all_less, any_kept, any_less, both_false, either_false, filter_less, listed_less, placed_has, placed_other, placed_own, remove_agree, rules_less}
-use Rattle.table.proofs.laws.chains.StoredChainLaws.{map_remove}
-use Rattle.table.proofs.laws.chains.StepLaws.{first_clear, none_holds}
-use Rattle.table.proofs.laws.chains.StoreLaws.{texts_differ}
+use Rattle.table.proofs.laws.chains.PlaceLaws.{names_placed, placed_listed, differing_at, rules_at, all_less, any_kept, any_less, both_false, either_false, filter_less, listed_less, placed_has, placed_other, placed_own, remove_agree, rules_less}
+use Rattle.table.proofs.laws.chains.StoreLaws.{map_remove, texts_differ}
 
 -- Names in rules
 

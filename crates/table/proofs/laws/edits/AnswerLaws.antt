@@ -1,28 +1,110 @@
--- What a call answers, by what it found.
-use Rattle.std.proofs.Common.{◌≡◌, inl, inr, ℕ, zero, suc, ◌<◌, true, false, not, List, [], ◌∷◌, length, get_or, map, refl, sym, ◌∙◌, ap, arith, subst, Option, Some, None, Result, Ok, Err}
+-- What calls answer, by what they found, and leave of the table: what refuses one, and that out of memory is no cause.
+use Rattle.std.proofs.Common.{◌≡◌, inl, inr, ℕ, Bool, true, false, not, List, [], ◌∷◌, ◌++◌, refl, sym, ◌∙◌, ap, Option, Some, None, Result, Ok, Err, zero, suc, ◌<◌, length, get_or, map, arith, subst, ◌-◌, ◌≤◌, drop}
+use Rattle.std.specs.Prelude.{remove, if◌then◌else◌}
+use Rattle.std.specs.List.{list_all, list_any, position}
+use Rattle.std.proofs.lemmas.Bool.{cases_Bool, cond-true, cond-false, false≢true, and_parts, not-true}
 use Rattle.std.proofs.lemmas.Option.{same_Some, none-some}
-use Rattle.std.specs.List.{list_any, position}
-use Rattle.std.proofs.lemmas.Bool.{cases_Bool, cond-true, cond-false}
-use Rattle.std.proofs.lemmas.List.{length-map}
-use Rattle.rules.specs.rule.Rules.{Rule}
-use Rattle.rules.proofs.laws.rule.CrossLaws.{any_mapped}
+use Rattle.std.proofs.lemmas.List.{length-map, length-drop, get_or-drop, get_or_default}
 use Rattle.std.specs.Option.{IsSome}
-use Rattle.std.proofs.lemmas.Bool.{false≢true}
-use Rattle.fields.specs.Refusals.{Refuses}
-use Rattle.fields.specs.values.Name.{is_name, name_of}
-use Rattle.table.specs.chains.Table.{Table, TableView, Chain, Policy, AreClassified, is_named, has_chain, rules_of}
-use Rattle.table.specs.edits.Edits.{Edit, Cause, same_text, without_first, no_such_rule, changed_chain, TableFault, NoSuchChain, fault_of, first_fault, edited, changed, step, refusal_of, Answers, IsStep, IsStepIfRoom, NoMemory, no_such_chain}
-use Rattle.table.specs.declared.chain.entry.Flow.TheVariants as flow
-use Rattle.table.specs.declared.chain.entry.Entry.{Entry}
-use Rattle.std.specs.Prelude.{remove}
 use Rattle.std.proofs.lemmas.List.Quantifiers.{position-Some}
 use Rattle.std.proofs.lemmas.Slice.Eq.{bytes_eq-Decides}
+use Rattle.classify.specs.Laws.{RulesHaveOneClassifier}
+use Rattle.rules.specs.rule.Rules.{Rule}
+use Rattle.rules.proofs.laws.rule.CrossLaws.{any_mapped}
+use Rattle.fields.specs.Refusals.{Refuses}
+use Rattle.fields.specs.values.Name.{is_name, name_of}
+use Rattle.table.specs.chains.Table.{Table, chain_named_by, TableView, Chain, Policy, AreClassified, is_named, has_chain, rules_of, built_in_names, is_built_in, names_of}
+use Rattle.table.specs.edits.Edits.{Edit, Append, Insert, Replace, DeleteAt, DeleteRule, Has, Flush, FlushAll, NewChain, DeleteChain, DeleteChains, SetPolicy, Rename, Cause, causes, target_causes, full, first_fault, TableFault, NoMemory, fault_of, edited, IsStepIfRoom, same_text, without_first, no_such_rule, changed_chain, NoSuchChain, changed, step, refusal_of, Answers, IsStep, no_such_chain, TargetMissing, TargetBuiltIn, Loop, leads}
+use Rattle.table.specs.edits.Headline.{OutOfMemoryIsNoCause, accepted, edited_by, CallsLeaveWhatTheyAccept, RefusedCallsChangeNothing, ChainsHaveOneListOfClassifiers}
+use Rattle.table.specs.declared.chain.entry.Entry.{Entry}
 use Rattle.table.specs.steps.StoredChains.{StoredChain, rule_in, rules_in, has_text, IsClassified}
-use Rattle.table.specs.steps.Kept.{stored_at, name_at, listed, listed_stored, blank, classifiers, table_of, table_with, name_in, stored_in, AreStored}
+use Rattle.table.specs.steps.Kept.{stored_at, name_at, listed, listed_stored, blank, classifiers, table_of, table_with, name_in, stored_in, AreStored, IsStored, LinksTo}
 use Rattle.table.specs.declared.parts.Parts.{Parts}
+use Rattle.table.specs.chains.Sound.{IsUserName}
+use Rattle.table.specs.declared.chain.entry.Flow.TheVariants as flow
 use Rattle.table.proofs.laws.chains.PlaceLaws.{any_none, any_some, IsPlaced, placed_at, placed_nowhere}
-use Rattle.table.proofs.laws.chains.StoreLaws.{names_apart, listed_get, length-listed}
-use Rattle.table.proofs.laws.edits.MemoryLaws.{never_memory}
+use Rattle.table.proofs.laws.chains.StoreLaws.{names_apart, listed_get, length-listed, built_in_at, length-names, names_get}
+
+-- ---- Out of memory is no cause of the definition.
+
+abbrev is_memory : TableFault → Bool
+is_memory NoMemory = true
+is_memory f = false
+
+abbrev is_other : Cause → Bool
+is_other cause = not (is_memory cause.1)
+
+target_other : (t : Table) (c : List ℕ) (o : Option (List ℕ)) → list_all is_other (target_causes t c o) ≡ true
+target_other t c None = refl
+target_other t c (Some name) = refl
+
+target_full_other : (t : Table) (c : List ℕ) (o : Option (List ℕ)) → list_all is_other (target_causes t c o ++ full t c ∷ []) ≡ true
+target_full_other t c None = refl
+target_full_other t c (Some name) = refl
+
+causes_other : (e : Edit) (t : Table) → list_all is_other (causes e t) ≡ true
+causes_other (Append c r) t = target_full_other t c (chain_named_by r)
+causes_other (Insert c n r) t = target_full_other t c (chain_named_by r)
+causes_other (Replace c n r) t = target_other t c (chain_named_by r)
+causes_other (DeleteAt c n) t = refl
+causes_other (DeleteRule c r) t = refl
+causes_other (Has c r) t = refl
+causes_other (Flush c) t = refl
+causes_other FlushAll t = refl
+causes_other (NewChain c) t = refl
+causes_other (DeleteChain c) t = refl
+causes_other DeleteChains t = refl
+causes_other (SetPolicy c text) t = refl
+causes_other (Rename old new) t = refl
+
+abbrev fault_is_memory : Option TableFault → Bool
+fault_is_memory None = false
+fault_is_memory (Some f) = is_memory f
+
+first_other : (cs : List Cause) → list_all is_other cs ≡ true → fault_is_memory (first_fault cs) ≡ false
+first_other [] h = refl
+first_other (c ∷ cs) h =
+    let both = and_parts (is_other c) (list_all is_other cs) h in
+    elim (cases_Bool c.0) [
+      | inl holds ↦ ap fault_is_memory (cond-true c.0 _ _ holds) ∙ not-true (is_memory c.1) both.0
+      | inr un ↦ ap fault_is_memory (cond-false c.0 _ _ un) ∙ first_other cs both.1
+    ]
+
+-- an edit's fault is never out of memory
+pub never_memory : OutOfMemoryIsNoCause
+never_memory e t h = false≢true (sym (first_other (causes e t) (causes_other e t)) ∙ ap fault_is_memory h)
+
+-- ---- What the definitions come to.
+
+-- Calls, one after another
+
+accepted_leaves : (e : Edit) (t next : Table) (o : Option TableFault) → elim o as (λ o. Result Table TableFault) [ None ↦ Ok (edited e t) | Some f ↦ Err f ] ≡ Ok next → next ≡ edited e t
+accepted_leaves e t next None is = let same : Ok (edited e t) ≡ Ok next = is in cc
+accepted_leaves e t next (Some f) is = absurd (let z : Err f ≡ Ok next = is in cc)
+
+pub refused_changes_nothing : RefusedCallsChangeNothing
+refused_changes_nothing e old new f h = h.1.0
+
+one_call : (e : Edit) (old next : TableView) (answer : Result (Unit {0}) TableFault) (more : List Edit) → IsStepIfRoom e old next answer
+    → edited_by next.table more ≡ edited_by old.table (elim answer as (λ r. List Edit) [ Ok u ↦ e ∷ more | Err f ↦ more ])
+one_call e old next (Ok u) more h = ap (λ (t : Table). edited_by t more) (accepted_leaves e old.table next.table (fault_of e old.table) h.0)
+one_call e old next (Err f) more h = ap (λ (v : TableView). edited_by v.table more) (refused_changes_nothing e old next f h)
+
+pub calls_leave : CallsLeaveWhatTheyAccept
+calls_leave old new [] h = ap (λ (v : TableView). v.table) h
+calls_leave old new (call ∷ calls) h = calls_leave h.0 new calls h.2 ∙ one_call call.edit old h.0 call.answer (accepted calls) h.1
+
+-- Classifiers
+
+pub one_list : RulesHaveOneClassifier → ChainsHaveOneListOfClassifiers
+one_list one [] [] [] a b = refl
+one_list one [] [] (d ∷ ds) a b = absurd b
+one_list one [] (c ∷ cs) ds a b = absurd a
+one_list one (chain ∷ chains) [] ds a b = absurd a
+one_list one (chain ∷ chains) (c ∷ cs) [] a b = absurd b
+one_list one (chain ∷ chains) (c ∷ cs) (d ∷ ds) a b = λ i. one chain.rules c d a.0 b.0 i ∷ one_list one chains cs ds a.1 b.1 i
+
+-- ---- What a call answers, by what it found.
 
 -- An answer is right
 
@@ -206,3 +288,63 @@ exists_named t name h = go (position (is_named name) t.chains) refl h
     go : (o : Option ℕ) → position (is_named name) t.chains ≡ o → IsSome o → has_chain t name ≡ true
     go (Some i) e h = let p : IsPlaced t name i = placed_at t name i e in p.there
     go None e h = absurd (false≢true h)
+
+-- ---- What refuses a rule in a chain, and what it leads to.
+
+-- Built-in names
+
+one_of_three : (name : List ℕ) (k : ℕ) → k < 3 → get_or built_in_names k [] ≡ name → is_built_in name ≡ true
+one_of_three name zero lt e = ap is_built_in (sym e)
+one_of_three name (suc zero) lt e = ap is_built_in (sym e)
+one_of_three name (suc (suc zero)) lt e = ap is_built_in (sym e)
+one_of_three name (suc (suc (suc k))) lt e = absurd (omega (arith, lt))
+
+-- a chain at one of the first three places is a built-in one, and the others are not
+built_in_index : (ps : List Policy) (slots : List (Option StoredChain)) (order : List ℕ) (k : ℕ) → IsStored ps slots order → k < 3 → is_built_in (name_at slots order k) ≡ true
+built_in_index ps slots order k s lt = one_of_three (name_at slots order k) k lt (sym (built_in_at ps slots order s k lt))
+
+user_place : (ps : List Policy) (slots : List (Option StoredChain)) (order : List ℕ) (k : ℕ) → IsStored ps slots order → 3 ≤ k → k < length order → is_built_in (name_at slots order k) ≡ false
+user_place ps slots order k s ge lt =
+    let ns : List (List ℕ) = names_of (listed slots order) in
+    let is : get_or (drop 3 ns) (k - 3) [] ≡ name_at slots order k = get_or-drop 3 ns (k - 3) [] ∙ ap (λ n. get_or ns n []) (omega (arith, ge)) ∙ names_get slots order k [] lt in
+    let u : IsUserName (get_or (drop 3 ns) (k - 3) []) = s.sound.listed.user (k - 3) [] (omega (arith, ge, lt, length-names slots order, length-drop 3 ns)) in
+    ap is_built_in (sym is) ∙ u.other
+
+-- The chain that a rule names
+
+-- what may refuse it, once it is there
+abbrev once_there : List (Option StoredChain) → List ℕ → List ℕ → List ℕ → List Cause
+once_there slots order chain name = (is_built_in name, TargetBuiltIn) ∷ (leads (listed slots order) name chain, Loop) ∷ []
+
+pub target_missing : (ps : List Policy) (slots : List (Option StoredChain)) (order chain name : List ℕ) → position (is_named name) (listed slots order) ≡ None → first_fault (target_causes (table_with ps slots order) chain (Some name)) ≡ Some TargetMissing
+target_missing ps slots order chain name e = holds (not (has_chain (table_with ps slots order) name), TargetMissing) (once_there slots order chain name) (ap not (placed_nowhere (table_with ps slots order) name e))
+
+there : (ps : List Policy) (slots : List (Option StoredChain)) (order chain name : List ℕ) (i : ℕ) → position (is_named name) (listed slots order) ≡ Some i
+    → first_fault (target_causes (table_with ps slots order) chain (Some name)) ≡ first_fault (once_there slots order chain name)
+there ps slots order chain name i e =
+    let p : IsPlaced (table_with ps slots order) name i = placed_at (table_with ps slots order) name i e in
+    passes (not (has_chain (table_with ps slots order) name), TargetMissing) (once_there slots order chain name) (ap not p.there)
+
+pub target_built_in : (ps : List Policy) (slots : List (Option StoredChain)) (order chain name : List ℕ) (i : ℕ) → IsStored ps slots order → i < length order → position (is_named name) (listed slots order) ≡ Some i → i < 3
+    → first_fault (target_causes (table_with ps slots order) chain (Some name)) ≡ Some TargetBuiltIn
+target_built_in ps slots order chain name i s lt e low =
+    there ps slots order chain name i e ∙ holds (is_built_in name, TargetBuiltIn) ((leads (listed slots order) name chain, Loop) ∷ []) (ap is_built_in (sym (name_placed ps slots order name i lt e)) ∙ built_in_index ps slots order i s low)
+
+-- the chain of the name lies under the key
+name_under : (ps : List Policy) (slots : List (Option StoredChain)) (order name : List ℕ) (i key : ℕ) → i < length order → position (is_named name) (listed slots order) ≡ Some i → key ≡ get_or order i key → (stored_at slots key).name ≡ name
+name_under ps slots order name i key lt e is = ap (λ (k : ℕ). (stored_at slots k).name) (is ∙ sym (get_or_default order i 0 key lt)) ∙ name_placed ps slots order name i lt e
+
+-- a user chain that is there is refused where a path leads from it to the chain that the rule would stand in
+pub target_led : (ps : List Policy) (slots : List (Option StoredChain)) (order name : List ℕ) (i place key own : ℕ) (found : Bool) → IsStored ps slots order → i < length order → position (is_named name) (listed slots order) ≡ Some i → 3 ≤ i → key ≡ get_or order i key → place < length order
+    → own ≡ get_or order place own → found ≡ leads (listed slots order) (stored_at slots key).name (stored_at slots own).name
+    → first_fault (target_causes (table_with ps slots order) (name_at slots order place) (Some name)) ≡ (if found then Some Loop else None)
+target_led ps slots order name i place key own found s lt e high is below at h =
+    let chain : List ℕ = name_at slots order place in
+    let path : found ≡ leads (listed slots order) name chain = h ∙ ap (λ (a : List ℕ). leads (listed slots order) a (stored_at slots own).name) (name_under ps slots order name i key lt e is)
+    ∙ ap (λ (k : ℕ). leads (listed slots order) name (stored_at slots k).name) (at ∙ sym (get_or_default order place 0 own below)) in
+    there ps slots order chain name i e
+    ∙ passes (is_built_in name, TargetBuiltIn) ((leads (listed slots order) name chain, Loop) ∷ []) (ap is_built_in (sym (name_placed ps slots order name i lt e)) ∙ user_place ps slots order i s high lt)
+    ∙ ap (λ (b : Bool). if b then Some Loop else None) (sym path)
+
+pub target_links : (ps : List Policy) (slots : List (Option StoredChain)) (order name : List ℕ) (i key : ℕ) → i < length order → position (is_named name) (listed slots order) ≡ Some i → 3 ≤ i → key ≡ get_or order i key → LinksTo slots order key (Some name)
+target_links ps slots order name i key lt e high is = ((i, high, lt, get_or_default order i 0 key lt ∙ sym is), name_under ps slots order name i key lt e is)

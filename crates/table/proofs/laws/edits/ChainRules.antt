@@ -1,7 +1,7 @@
 -- The definitions, computed on worked rows.
 use Rattle.std.proofs.Common.{◌≡◌, ℕ, [], ◌∷◌, List, Option, Some, None, Ok, Err, true, false, refl, codes}
 use Rattle.std.specs.Prelude.{replicate}
-use Rattle.fields.specs.packet.Packet.{PacketView as Packet}
+use Rattle.fields.specs.Packet.{PacketView as Packet}
 use Rattle.fields.specs.declared.packet.hook.Hook.TheVariants as hook
 use Rattle.rules.specs.rule.Allows.{allows}
 use Rattle.rules.specs.rule.Crossing.{cross}

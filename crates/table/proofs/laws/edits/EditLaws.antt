@@ -1,28 +1,37 @@
--- What the edits of one chain's rules leave.
-use Rattle.std.proofs.Common.{◌≡◌, ℕ, suc, ◌+◌, ◌^◌, ◌<◌, ◌≤◌, cond, List, [], ◌∷◌, length, get_or, take, drop, map, refl, sym, ◌∙◌, ap, arith, subst, Option, Some, None, All, unwrap_or}
+-- What the edits of one chain's rules leave: its table, its boxes, its edges, and all chains emptied.
+use Rattle.std.proofs.Common.{◌≡◌, inl, ℕ, Bool, true, false, refl, suc, ◌+◌, ◌^◌, ◌<◌, ◌≤◌, cond, List, [], ◌∷◌, length, get_or, take, drop, map, sym, ◌∙◌, ap, arith, subst, Option, Some, None, All, unwrap_or, inr}
+use Rattle.std.specs.Prelude.{count_by, insert, remove, slice_set}
 use Rattle.std.proofs.lemmas.Option.{same_Some, none-some}
 use Rattle.std.proofs.Math.ListN.{set}
-use Rattle.std.specs.Prelude.{count_by, insert, remove, slice_set}
 use Rattle.std.proofs.lemmas.List.{map-set}
 use Rattle.std.proofs.lemmas.List.Sums.{sum_by-insert, sum_by-remove, sum_by-set, sum_by_more, sum_by_more_le}
 use Rattle.std.proofs.lemmas.List.Elements.{All-append, All-cons, All-take, All-drop, All-set, All-nil}
 use Rattle.std.specs.Option.{IfSome, IsSome}
-use Rattle.std.proofs.lemmas.Bool.{eq-eqb}
+use Rattle.std.proofs.lemmas.Bool.{eq-eqb, cases_eq}
 use Rattle.rules.specs.rule.Actions.{target_of}
 use Rattle.rules.specs.rule.Rules.{Rule}
 use Rattle.rules.specs.declared.rule.target.Target.{Target}
 use Rattle.rules.specs.declared.rule.target.Target.TheVariants as target
+use Rattle.table.specs.edits.Edits.{MakesBoxes, changed, FlushAll, edited}
 use Rattle.table.specs.chains.Sound.{IsSound}
-use Rattle.table.specs.chains.Table.{Policy, Table, Chain, chain_in, chain_named_by}
-use Rattle.table.specs.edits.Edits.{changed}
-use Rattle.table.specs.steps.StoredChains.{StoredChain, rule_in, rules_in, leads_to, is_key, key_in, flow_of, ones, IsClassified}
+use Rattle.table.specs.chains.Table.{Policy, Table, Chain, chain_in, chain_named_by, empty_chain}
+use Rattle.table.specs.steps.StoredChains.{StoredChain, rule_in, rules_in, leads_to, is_key, key_in, flow_of, ones, IsClassified, AreDistinct, AreEdges, CountsMore, CountsFewer}
 use Rattle.table.specs.steps.Kept.{blank, slot_at, stored_at, name_at, table_with, leading_in, leading, references_at, AreRecounted, CountsInAndOut, IsIn, IsUser, LinksTo, IsLinked, IsStored, IsKept}
 use Rattle.table.specs.declared.chain.entry.Entry.{Entry}
-use Rattle.table.proofs.laws.chains.StoredChainLaws.{map_insert, map_remove}
-use Rattle.table.proofs.laws.chains.KeptLaws.{Found, found_key, some_set, listed_set, stored_set}
-use Rattle.table.proofs.laws.chains.StepLaws.{remove_keeps, remove_fewer, flush_sound}
+use Rattle.table.specs.declared.chain.edges.Edge.{Edge}
+use Rattle.table.proofs.laws.chains.StoreLaws.{map_insert, map_remove, Found, found_key, some_set, listed_set, stored_set, key_within, stored_set_same, stored_set_other, set_some, listed_by}
+use Rattle.table.proofs.laws.chains.StepLaws.{remove_keeps, remove_fewer, flush_sound, flush_all_sound}
 use Rattle.table.proofs.laws.chains.KeepLaws.{take_sound}
 use Rattle.table.proofs.laws.chains.CountLaws.{part_kept, count_has_room, leading_part, found_leading, leading_recounted, listed_recounted, stored_recounted, counted_moved}
+
+-- ---- How many boxes were made.
+
+-- none was made, whether or not one was asked for
+pub none_made : (asks : Bool) (boxes : ℕ) → MakesBoxes asks boxes boxes
+none_made true boxes = inl refl
+none_made false boxes = refl
+
+-- ---- What the edits of one chain's rules leave.
 
 -- an edit of one chain's rules
 pub table_set : (ps : List Policy) (slots : List (Option StoredChain)) (order : List ℕ) (i key : ℕ) (stored_chain new : StoredChain) (edit : List Rule → List Rule) → Found ps slots order i key stored_chain → new.name ≡ stored_chain.name → rules_in new ≡ edit (rules_in stored_chain)
@@ -305,3 +314,98 @@ next_counted slots now new key at e link lt own is counts c k =
     let a = sum_by_more (λ (x : Entry). cond (leads_to k x.flow) 1 0) es at e lt in
     let b : ones (leads_to k (get_or es at e).flow) ≡ ones (is_key k link) = ap (λ (x : Entry). ones (is_key k (key_in x.flow))) own ∙ ap (λ (o : Option ℕ). ones (is_key k o)) (sym is) in
     omega (arith, a, b, counts k, c k)
+
+-- ---- The edges of a chain after an edit of its rules.
+
+pub edges_inserted : (es : List Entry) (edges new : List Edge) (n : ℕ) (e : Entry) (link : Option ℕ) → AreEdges es edges → link ≡ key_in e.flow → AreDistinct new → CountsMore link edges new → AreEdges (insert es n e) new
+edges_inserted es edges new n e link h is d c = record {
+  distinct = d;
+  exact = λ k. (let a : ones (is_key k link) ≡ ones (is_key k (key_in e.flow)) = ap (λ (o : Option ℕ). ones (is_key k o)) is in omega (arith, a, h.exact k, c k, leads_in es n e k));
+}
+
+pub edges_removed : (es : List Entry) (edges new : List Edge) (n : ℕ) (e : Entry) (link : Option ℕ) → AreEdges es edges → n < length es → e ≡ get_or es n e → link ≡ key_in e.flow → AreDistinct new → CountsFewer link edges new → AreEdges (remove es n) new
+edges_removed es edges new n e link h lt own is d c = record {
+  distinct = d;
+  exact = λ k.
+      (let a : ones (is_key k link) ≡ ones (is_key k (key_in (get_or es n e).flow)) = ap (λ (o : Option ℕ). ones (is_key k o)) is ∙ ap (λ (x : Entry). ones (is_key k (key_in x.flow))) own in
+      omega (arith, a, h.exact k, c k, leads_out es n e k lt));
+}
+
+pub edges_replaced : (es : List Entry) (edges more new : List Edge) (n : ℕ) (e old : Entry) (link before : Option ℕ) → AreEdges es edges → n < length es → link ≡ key_in e.flow → old ≡ get_or es n old → before ≡ key_in old.flow → AreDistinct new → CountsMore link edges more → CountsFewer before more new
+    → AreEdges (slice_set es n e) new
+edges_replaced es edges more new n e old link before h lt is own was d c f = record {
+  distinct = d;
+  exact = λ k.
+      (let a : ones (is_key k link) ≡ ones (is_key k (key_in e.flow)) = ap (λ (o : Option ℕ). ones (is_key k o)) is in
+      let b : ones (is_key k before) ≡ ones (is_key k (key_in (get_or es n old).flow)) = ap (λ (o : Option ℕ). ones (is_key k o)) was ∙ ap (λ (x : Entry). ones (is_key k (key_in x.flow))) own in
+      omega (arith, a, b, h.exact k, c k, f k, leads_over es n e old k lt));
+}
+
+-- ---- All chains emptied.
+
+-- a chain without rules, that no rule names
+pub record IsEmptied (stored_chain : StoredChain) : Type 0 where
+  pub entries : stored_chain.entries ≡ []
+  pub references : stored_chain.references ≡ 0
+  pub classified : IsClassified stored_chain
+
+-- the first chains of the index are empty, and no name has changed
+pub record AreEmptied (old new : List (Option StoredChain)) (order : List ℕ) (upto : ℕ) : Type 0 where
+  pub present : (k : ℕ) → IsSome (slot_at old k) → IsSome (slot_at new k)
+  pub no_more : (k : ℕ) → IsSome (slot_at new k) → IsSome (slot_at old k)
+  pub name : (k : ℕ) → (stored_at new k).name ≡ (stored_at old k).name
+  pub emptied : (j : ℕ) → j < upto → IsEmptied (stored_at new (get_or order j 0))
+
+pub none_emptied : (slots : List (Option StoredChain)) (order : List ℕ) → AreEmptied slots slots order 0
+none_emptied slots order = record { present = λ k h. h; no_more = λ k h. h; name = λ k. refl; emptied = λ j lt. absurd (omega (arith, lt)) }
+
+pub next_emptied : (old now : List (Option StoredChain)) (order : List ℕ) (upto key : ℕ) (stored_chain new : StoredChain) → AreEmptied old now order upto → get_or order upto 0 ≡ key → slot_at now key ≡ Some stored_chain → new.name ≡ stored_chain.name → IsEmptied new
+    → AreEmptied old (set now key (Some new)) order (upto + 1)
+next_emptied old now order upto key stored_chain new h at slot named empty =
+    let O : Option StoredChain → Type 0 = λ (o : Option StoredChain). IsSome o in
+    let within : key < length now = key_within now key (subst O (sym slot) refl) in
+    let is : stored_at now key ≡ stored_chain = ap (λ (o : Option StoredChain). unwrap_or o blank) slot in
+    record {
+      present = λ k there. some_set now key k new within (h.present k there);
+      no_more = λ k there. h.no_more k (set_some now key k new (subst O (sym slot) refl) there);
+      name = λ k.
+          elim (cases_eq k key) [
+            | inl q ↦ ap (λ (j : ℕ). (stored_at (set now key (Some new)) j).name) q ∙ ap (λ (r : StoredChain). r.name) (stored_set_same now key new within) ∙ named ∙ ap (λ (r : StoredChain). r.name) (sym is)
+                ∙ ap (λ (j : ℕ). (stored_at now j).name) (sym q) ∙ h.name k
+            | inr ne ↦ ap (λ (r : StoredChain). r.name) (stored_set_other now key k new ne) ∙ h.name k
+          ];
+      emptied = λ j lt.
+          elim (cases_eq (get_or order j 0) key) [
+            | inl q ↦ subst IsEmptied (sym (ap (stored_at (set now key (Some new))) q ∙ stored_set_same now key new within)) empty
+            | inr ne ↦ subst IsEmptied (sym (stored_set_other now key (get_or order j 0) new ne))
+                (h.emptied j (elim (cases_eq j upto) [ inl same ↦ absurd (ne (ap (λ (n : ℕ). get_or order n 0) same ∙ at)) | inr other ↦ omega (arith, lt, other) ]))
+          ];
+    }
+
+-- all of them are
+pub all_emptied : (ps : List Policy) (old new : List (Option StoredChain)) (order : List ℕ) → IsKept ps old order → AreEmptied old new order (length order) → table_with ps new order ≡ edited FlushAll (table_with ps old order)
+all_emptied ps old new order h e =
+    let P : List Chain → Table = λ (cs : List Chain). record { policies = ps; chains = cs } in
+    ap P (listed_by (λ (c : Chain). empty_chain c.name) old new order
+    (λ k lt. (λ i. record { name = e.name (get_or order k 0) i; rules = map (λ (x : Entry). x.rule) ((e.emptied k lt).entries i) })))
+
+nothing_leads : (slots : List (Option StoredChain)) (keys : List ℕ) (k : ℕ) → ((j : ℕ) → j < length keys → IsEmptied (stored_at slots (get_or keys j 0))) → leading slots keys k ≡ 0
+nothing_leads slots [] k h = refl
+nothing_leads slots (x ∷ xs) k h =
+    omega (arith, ap (λ (es : List Entry). count_by (λ (y : Entry). leads_to k y.flow) es) (h 0 (omega arith)).entries, nothing_leads slots xs k (λ j lt. h (suc j) (omega (arith, lt))))
+
+pub all_kept : (ps : List Policy) (old new : List (Option StoredChain)) (order : List ℕ) → IsKept ps old order → AreEmptied old new order (length order) → IsKept ps new order
+all_kept ps old new order h e =
+    let T : Table → Type 0 = λ (t : Table). IsSound t in
+    let L : List Entry → Type 0 = λ (es : List Entry). All (IsLinked new order) es in
+    record {
+      stored = record {
+        present = λ i lt. e.present (get_or order i 0) (h.stored.present i lt);
+        no_more = λ k there. h.stored.no_more k (e.no_more k there);
+        apart = h.stored.apart;
+        linked = λ i lt. subst L (sym (e.emptied i lt).entries) (All-nil (IsLinked new order));
+        classified = λ i lt. (e.emptied i lt).classified;
+        sound = subst T (sym (all_emptied ps old new order h e)) (flush_all_sound (table_with ps old order) h.stored.sound);
+      };
+      counted = λ i lt. (e.emptied i lt).references ∙ sym (nothing_leads new order (get_or order i 0) e.emptied);
+    }

@@ -14,13 +14,11 @@ use Rattle.table.specs.steps.StoredChains.{StoredChain, leads_to, is_key, key_in
 use Rattle.table.specs.steps.Kept.{blank, slot_at, stored_at, name_at, listed, listed_at, listed_stored, table_with, leading, leading_in, IsIn, IsUser, LinksTo, IsLinked, IsIndexFor, IsStored, IsKept, IsUnmarked, AreStored, table_of}
 use Rattle.table.specs.declared.parts.Parts.{Parts}
 use Rattle.table.specs.declared.chain.entry.Entry.{Entry}
-use Rattle.table.proofs.laws.chains.ChainLaws.{new_chain_sound}
+use Rattle.table.proofs.laws.chains.StepLaws.{new_chain_sound}
 use Rattle.table.proofs.laws.chains.KeepLaws.{is_user_name, users_by_names, itself_not_before}
-use Rattle.table.proofs.laws.chains.OrderLaws.{before_trans}
-use Rattle.table.proofs.laws.chains.StoredChainLaws.{map_insert}
-use Rattle.table.proofs.laws.chains.StoreLaws.{long, built_in_first, user_after, length-listed, length-names, listed_get, names_get}
+use Rattle.table.proofs.laws.chains.PlaceLaws.{before_trans, placed_nowhere}
+use Rattle.table.proofs.laws.chains.StoreLaws.{map_insert, long, built_in_first, user_after, length-listed, length-names, listed_get, names_get}
 use Rattle.table.proofs.laws.chains.CountLaws.{users_from}
-use Rattle.table.proofs.laws.chains.PlaceLaws.{placed_nowhere}
 use Rattle.table.proofs.laws.edits.AnswerLaws.{name_read, passes}
 use Rattle.table.proofs.laws.edits.EditLaws.{link_user}
 

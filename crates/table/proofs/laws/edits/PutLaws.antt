@@ -4,14 +4,13 @@ use Rattle.std.specs.Prelude.{insert, slice_set}
 use Rattle.std.specs.List.{position}
 use Rattle.std.proofs.lemmas.Bool.{cases_Bool, cond-true, cond-false, le-leb, lt-leb}
 use Rattle.std.proofs.lemmas.List.{length-set}
-use Rattle.rules.specs.printing.RoundTrip.{TextReadsBack}
+use Rattle.rules.specs.Printing.{TextReadsBack}
 use Rattle.rules.specs.rule.Rules.{Rule}
 use Rattle.table.specs.chains.Sound.{IsSound}
 use Rattle.table.specs.chains.Table.{Table, TableView, chain_named_by, is_named, rules_of}
 use Rattle.table.specs.edits.Edits.{Edit, Cause, TableFault, IsStepIfRoom, edited, fault_of, InterfaceNotAllowed, asks_absent_interface, changed, first_fault, full, rule_causes, target_causes}
-use Rattle.table.specs.steps.Kept.{AreStored, name_in, stored_in, table_of, view_of}
+use Rattle.table.specs.steps.Kept.{AreStored, name_in, stored_in, table_of, view_of, AnswersCauses}
 use Rattle.table.specs.declared.parts.Parts.{Parts}
-use Rattle.table.specs.steps.Puts.{AnswersCauses}
 use Rattle.table.proofs.laws.chains.KeepLaws.{put_sound}
 use Rattle.table.proofs.laws.chains.StepLaws.{none_holds, first_clear, target_clear, may_stand, insert_brings, replace_brings, room_by_name, few_by_name, insert_long, no_more}
 use Rattle.table.proofs.laws.chains.StoreLaws.{place_is}

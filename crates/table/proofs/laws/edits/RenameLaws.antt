@@ -17,24 +17,20 @@ use Rattle.rules.specs.declared.rule.action.Action.{Action}
 use Rattle.rules.specs.declared.rule.action.Action.TheVariants as action
 use Rattle.rules.specs.declared.rule.target.Target.{Target}
 use Rattle.rules.specs.declared.rule.target.Target.TheVariants as target
-use Rattle.rules.specs.printing.RoundTrip.{RenamedReadsBack}
+use Rattle.rules.specs.Printing.{RenamedReadsBack}
 use Rattle.rules.specs.rule.Actions.{action_with_chain_name, target_of, target_with, with_chain_name}
 use Rattle.rules.specs.rule.Rules.{Rule}
 use Rattle.table.specs.chains.Sound.{IsSound}
 use Rattle.table.specs.chains.Table.{Table, Chain, Policy, chain_in, comes_before, is_built_in, is_named, is_this, names, names_of}
 use Rattle.table.specs.edits.Edits.{Rename, edited, placed, renamed_rule, renamed_chain}
-use Rattle.table.specs.steps.Kept.{blank, slot_at, stored_at, name_at, listed, listed_at, listed_stored, table_with, leading, leading_in, IsIn, IsUser, LinksTo, IsLinked, IsIndexFor, IsStored, IsKept}
-use Rattle.table.specs.steps.Renames.{AreRetargeted, moved_key, retargeted}
-use Rattle.table.specs.steps.StoredChains.{StoredChain, flow_of, leads_to, ones, rule_in, rules_in, IsClassified}
-use Rattle.table.specs.steps.Edges.{AreEdges}
+use Rattle.table.specs.steps.Kept.{blank, slot_at, stored_at, name_at, listed, listed_at, listed_stored, table_with, leading, leading_in, IsIn, IsUser, LinksTo, IsLinked, IsIndexFor, IsStored, IsKept, AreRetargeted, moved_key, retargeted}
+use Rattle.table.specs.steps.StoredChains.{StoredChain, flow_of, leads_to, ones, rule_in, rules_in, IsClassified, AreEdges}
 use Rattle.table.specs.declared.chain.edges.Edge.{Edge}
 use Rattle.table.specs.declared.chain.entry.Entry.{Entry}
-use Rattle.table.proofs.laws.chains.KeptLaws.{key_within, listed_by, stored_set_other, stored_set_same, some_set, set_some}
+use Rattle.table.proofs.laws.chains.StoreLaws.{key_within, listed_by, stored_set_other, stored_set_same, some_set, set_some, map_insert, map_remove, built_in_first, length-listed, length-names, listed_get, names_apart, names_get, texts_differ, user_after}
 use Rattle.table.proofs.laws.chains.CountLaws.{part_kept}
 use Rattle.table.proofs.laws.chains.PlaceLaws.{any_none, any_some}
 use Rattle.table.proofs.laws.chains.RenamedLaws.{IsRename, moved_is, names_at, names_rest, own_at, rename_sound, renamed_all, renamed_at, renamed_get, renamed_other, renamed_own}
-use Rattle.table.proofs.laws.chains.StoredChainLaws.{map_insert, map_remove}
-use Rattle.table.proofs.laws.chains.StoreLaws.{built_in_first, length-listed, length-names, listed_get, names_apart, names_get, texts_differ, user_after}
 use Rattle.table.proofs.laws.edits.MakeLaws.{insert_cases, leading_insert, not_turned, placed_is, shifted_at, stays_at}
 
 -- The chains under their keys

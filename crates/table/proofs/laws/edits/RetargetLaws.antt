@@ -1,25 +1,28 @@
--- New names in the rules of chains.
-use Rattle.std.proofs.Common.{◌≡◌, ◌≢◌, inl, inr, ℕ, ◌+◌, ◌<◌, cond, List, [], ◌∷◌, length, get_or, map, refl, sym, ◌∙◌, ap, arith, subst, Option, Some, None, IsSome, IsTrue, unwrap_or}
-use Rattle.classify.proofs.laws.classifier.RuleLaws.{renamed_or_not}
+-- What a rename leaves in the other chains: new names in their rules, and marks after a key has moved.
+use Rattle.std.proofs.Common.{◌≡◌, ◌≢◌, inl, inr, ℕ, ◌+◌, ◌<◌, cond, List, [], ◌∷◌, length, get_or, map, refl, sym, ◌∙◌, ap, arith, subst, Option, Some, None, IsSome, IsTrue, unwrap_or, ◌-◌, ◌≤◌, Bool}
+use Rattle.std.specs.Prelude.{count_by, remove, nat_lt, if◌then◌else◌}
 use Rattle.std.proofs.Math.ListN.{set}
-use Rattle.std.specs.Prelude.{count_by}
-use Rattle.std.proofs.lemmas.Bool.{cases_Bool, cases_eq, cond-false, false≢true}
+use Rattle.std.proofs.lemmas.Bool.{cases_Bool, cases_eq, cond-false, false≢true, ltb-true, ltb-false, cond-true}
 use Rattle.std.proofs.lemmas.List.Elements.{All-weaker}
 use Rattle.std.proofs.lemmas.List.Sums.{sum_by-cons}
-use Rattle.classify.specs.classifier.Classifier.{Classified, IsClassifierOfRules}
-use Rattle.classify.specs.classifier.Laws.{SameNumbersSameClassifier}
-use Rattle.classify.specs.classifier.OfRules.{AllowTheSame}
+use Rattle.std.proofs.lemmas.List.Edits.{length-remove}
+use Rattle.classify.proofs.laws.classifier.RuleLaws.{renamed_or_not}
+use Rattle.classify.specs.Classifier.{Classified, IsClassifierOfRules, AllowTheSame}
+use Rattle.classify.specs.Laws.{SameNumbersSameClassifier}
 use Rattle.rules.specs.rule.Actions.{with_chain_name, target_of, names_chain}
 use Rattle.rules.specs.rule.Rules.{Rule}
 use Rattle.rules.specs.declared.rule.target.Target.{Target}
 use Rattle.rules.specs.declared.rule.target.Target.TheVariants as target
 use Rattle.table.specs.chains.Table.{Policy}
-use Rattle.table.specs.steps.Kept.{blank, slot_at, stored_at, leading, references_at, IsIn, IsLinked, IsStored, IsKept}
-use Rattle.table.specs.steps.Renames.{NameChains, retargeted, AreRetargeted}
+use Rattle.table.specs.steps.Kept.{blank, slot_at, stored_at, leading, references_at, IsIn, IsLinked, IsStored, IsKept, IsUnmarked, NameChains, retargeted, AreRetargeted, moved_key}
 use Rattle.table.specs.steps.StoredChains.{StoredChain, leads_to, key_in, flow_of, ones, rule_in, IsClassified}
 use Rattle.table.specs.declared.chain.entry.Entry.{Entry}
-use Rattle.table.proofs.laws.chains.KeptLaws.{key_within, stored_set_same, stored_set_other, some_set, set_some}
+use Rattle.table.proofs.laws.chains.StoreLaws.{key_within, stored_set_same, stored_set_other, some_set, set_some}
 use Rattle.table.proofs.laws.chains.CountLaws.{part_kept, leading_part}
+use Rattle.table.proofs.laws.edits.DeleteLaws.{in_left}
+use Rattle.table.proofs.laws.edits.MakeLaws.{fewer_unmarked, more_unmarked}
+
+-- ---- New names in the rules of chains.
 
 allow_the_same : (key : ℕ) (name : List ℕ) (es : List Entry) → AllowTheSame (map rule_in es) (map rule_in (map (retargeted key name) es))
 allow_the_same key name [] = tt
@@ -116,3 +119,18 @@ no_rule_retargeted ps slots order key name h at none =
       done = λ j below lt. stays key name (stored_at slots (get_or order j 0)).entries (omega (arith, none, c, leading_part slots order j key lt));
       rest = λ j ge lt. refl;
     }
+
+-- ---- Marks after a key has moved in the index.
+
+lands_within : (order : List ℕ) (place to : ℕ) → place < length order → to ≤ length order → (if nat_lt place to then to - 1 else to) ≤ length (remove order place)
+lands_within order place to lt le =
+    elim (cases_Bool (nat_lt place to)) [
+      | inl t ↦ (let a = ltb-true place to t in omega (arith, a, lt, le, length-remove order place lt, cond-true (nat_lt place to) (to - 1) to t))
+      | inr f ↦ (let a = ltb-false place to f in omega (arith, a, lt, le, length-remove order place lt, cond-false (nat_lt place to) (to - 1) to f))
+    ]
+
+-- no mark is set where a key moves
+pub moved_unmarked : (order after : List ℕ) (seen : List Bool) (place to : ℕ) → IsUnmarked order seen → place < length order → to ≤ length order → after ≡ moved_key order place to → IsUnmarked after seen
+moved_unmarked order after seen place to u lt le is =
+    more_unmarked (remove order place) after seen (if nat_lt place to then to - 1 else to) (get_or order place 0)
+    (fewer_unmarked order (remove order place) seen u (λ k inn. in_left order place k lt inn)) (lands_within order place to lt le) (u.within (get_or order place 0) (place, lt, refl)) is

@@ -4,18 +4,16 @@ use Rattle.std.proofs.Math.Dec.{ltb}
 use Rattle.std.proofs.lemmas.Bool.{cases_Bool, cases_lt, cond-true, cond-false, lt-ltb, le-ltb}
 use Rattle.std.proofs.lemmas.List.{append-nil, length-append}
 use Rattle.std.proofs.lemmas.Option.{slice_get_past, slice_get-get_or}
-use Rattle.fields.specs.packet.Hook.{name as hook_name}
+use Rattle.fields.specs.Hook.{name as hook_name}
 use Rattle.rules.specs.rule.Actions.{target_of}
 use Rattle.rules.specs.rule.Allows.{matches}
 use Rattle.rules.specs.rule.Rules.{Rule, empty_rule}
-use Rattle.fields.specs.packet.Packet.{PacketView}
+use Rattle.fields.specs.Packet.{PacketView}
 use Rattle.table.specs.chains.Table.{Chain, Table, rules_of}
 use Rattle.table.specs.declared.verdict.Verdict.{Verdict}
 use Rattle.table.specs.walk.Walk.{Rest, Entry, Hit, hit_at, first_hit, Walked, Next, Ends, GoesOn, after_match, next_of, at_end, followed, end_verdict, too_long, walk, walk_within, whole}
 use Rattle.table.specs.walk.Cases.{Stage, Under, Over, next_rule, behind, with_next, on_by, StepsTo, GoesTo, Walks, WalksByCases, WalksInOneWay}
-use Rattle.table.proofs.laws.walk.WalkLaws.{rule_at, at_an_end, at_a_match, at_no_match}
-use Rattle.table.proofs.laws.walk.StepResultLaws.{by_hit, at_last, within_end, within_long}
-use Rattle.table.proofs.laws.walk.TrailLaws.{after, after_none, after_one}
+use Rattle.table.proofs.laws.walk.WalkLaws.{rule_at, at_an_end, at_a_match, at_no_match, by_hit, at_last, within_end, within_long, after, after_none, after_one}
 
 module _ (cs : List Chain) (policy : Verdict) (values : List ℕ) where
   -- Each stage has at most one next stage

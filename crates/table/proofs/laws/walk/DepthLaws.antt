@@ -7,9 +7,9 @@ use Rattle.std.proofs.lemmas.Bool.{cases_Bool, cases_lt, cond-true, cond-false, 
 use Rattle.std.proofs.lemmas.List.{get_or_default, get_or_past, length-map}
 use Rattle.std.proofs.lemmas.List.Elements.{All-contains}
 use Rattle.std.proofs.lemmas.Slice.Eq.{bytes_eq-Decides}
-use Rattle.classify.specs.search.NextMatch.{next_match}
+use Rattle.classify.specs.NextMatch.{next_match}
 use Rattle.rules.specs.rule.Allows.{matches}
-use Rattle.fields.specs.packet.Hook.{name as hook_name}
+use Rattle.fields.specs.Hook.{name as hook_name}
 use Rattle.rules.specs.rule.Actions.{target_of}
 use Rattle.rules.specs.rule.Rules.{Rule, empty_rule}
 use Rattle.rules.specs.declared.rule.target.Target.{Target}
@@ -18,7 +18,7 @@ use Rattle.table.specs.chains.Table.{Chain, names_of, Table, rules_of, chain_in,
 use Rattle.table.specs.chains.Sound.{Names, Path, HasNoLoop, IsTarget, MayStand, IsSoundChain, IsSound}
 use Rattle.table.specs.walk.Walk.{Rest, Hit, hit_at, first_hit, Next, Ends, GoesOn, after_match, next_of, whole}
 use Rattle.table.specs.walk.Depth.{stacked, deeper, depth_within, DepthIsBounded}
-use Rattle.table.proofs.laws.chains.PathLaws.{Mem, Differing, pigeon}
+use Rattle.table.proofs.laws.chains.SoundLaws.{Mem, Differing, pigeon}
 
 -- a path of at least one step
 abbrev LeadsOn : List Chain → List ℕ → List ℕ → Type 0

@@ -1,5 +1,5 @@
 use Rattle.std.proofs.Common.{ℕ, List, get_or, ap, arith}
-use Rattle.table.proofs.laws.search.SearchLaws.{left_within, left_next}
+use Rattle.table.proofs.laws.SearchLaws.{left_within, left_next}
 use Rattle.table.proofs.search.unmark.Goals as goal
 
 pub index_mut-requires : goal.index_mut-requires

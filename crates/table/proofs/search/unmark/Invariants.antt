@@ -1,4 +1,4 @@
-use Rattle.table.proofs.laws.search.SearchLaws.{AreLeft}
+use Rattle.table.proofs.laws.SearchLaws.{AreLeft}
 use Rattle.table.proofs.search.unmark.Given as goal
 
 abbrev pub invariant-loop-at : goal.invariant-loop-at

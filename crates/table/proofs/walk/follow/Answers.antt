@@ -1,7 +1,7 @@
 use Rattle.std.proofs.Common.{subst}
 use Rattle.table.specs.steps.Walking.{LeadsIn}
 use Rattle.table.specs.declared.chain.entry.Flow.{Flow}
-use Rattle.table.proofs.laws.walk.StackLaws.{state_pop, state_push}
+use Rattle.table.proofs.laws.walk.TableWalkLaws.{state_pop, state_push}
 use Rattle.table.proofs.walk.follow.Goals as goal
 
 pub returns-in-Some-clause-state : goal.returns-in-Some-clause-state

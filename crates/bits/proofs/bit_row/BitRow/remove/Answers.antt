@@ -1,8 +1,7 @@
 use Rattle.std.proofs.Common.{sym, ◌∙◌, ◌≡◌, ◌<◌, ◌-◌, ℕ, ap, length, arith, remove, subst, rules, vec_len, vec_capacity}
 use Rattle.bits.specs.BitRow.{BitsAndRoom, row_room}
 use Rattle.bits.specs.steps.Packing.{room_of}
-use Rattle.bits.proofs.laws.PaddedLaws.{remove_front}
-use Rattle.bits.proofs.laws.RowLaws.{front_len, freed_room, removed_vec, remove_packed, popped_packed, popped_bits}
+use Rattle.bits.proofs.laws.RowLaws.{remove_front, front_len, freed_room, removed_vec, remove_packed, popped_packed, popped_bits}
 use Rattle.bits.proofs.bit_row.BitRow.remove.Goals as goal
 
 pub invariant_of-self : goal.invariant_of-self

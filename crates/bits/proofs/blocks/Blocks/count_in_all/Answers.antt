@@ -1,7 +1,7 @@
 use Rattle.std.proofs.Common.{◌≡◌, ◌<◌, ◌+◌, ◌-◌, arith, ap, sym, subst, length, rules, vec_len, List, ℕ, get_or, [], length-append}
 use Rattle.std.specs.List.{concat}
 use Rattle.std.proofs.lemmas.List.{get_or_read}
-use Rattle.bits.specs.steps.Around.{AreAround}
+use Rattle.bits.specs.steps.Blocks.{AreAround}
 use Rattle.bits.proofs.laws.BlockPlaceLaws.{Rise, as_many, block_rises, first_rises, found_first, found_later, heads_rise}
 use Rattle.bits.proofs.blocks.Blocks.count_in_all.Goals as goal
 

@@ -2,7 +2,7 @@ use Rattle.std.proofs.Common.{◌≡◌, ◌<◌, ◌∙◌, ◌++◌, ap, arith
 use Rattle.std.specs.List.{concat}
 use Rattle.std.proofs.lemmas.List.{length-drop}
 use Rattle.bits.specs.steps.Blocks.{head_of}
-use Rattle.bits.proofs.laws.SlotRowLaws.{on_ok}
+use Rattle.bits.proofs.laws.HeldLaws.{on_ok}
 use Rattle.bits.proofs.laws.BlockEditLaws.{cut_first_kept, cut_first_shown, kept_as, put_in_room}
 use Rattle.bits.proofs.blocks.Blocks.cut_first.Goals as goal
 

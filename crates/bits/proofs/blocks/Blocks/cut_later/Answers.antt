@@ -2,7 +2,7 @@ use Rattle.std.proofs.Common.{◌≡◌, ◌<◌, ◌+◌, ◌∙◌, ◌++◌, 
 use Rattle.std.specs.List.{concat}
 use Rattle.std.proofs.lemmas.List.{get_or_read, length-drop}
 use Rattle.bits.specs.steps.Blocks.{head_of}
-use Rattle.bits.proofs.laws.SlotRowLaws.{on_ok}
+use Rattle.bits.proofs.laws.HeldLaws.{on_ok}
 use Rattle.bits.proofs.laws.BlockLaws.{before, concat_cut}
 use Rattle.bits.proofs.laws.BlockPlaceLaws.{as_many, begin_is, within_all}
 use Rattle.bits.proofs.laws.BlockEditLaws.{cut_later_kept, kept_as, put_in_room, read_again, same_insert}

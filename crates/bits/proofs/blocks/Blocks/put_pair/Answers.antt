@@ -1,9 +1,8 @@
 use Rattle.std.proofs.Common.{◌≡◌, ◌≤◌, ◌+◌, ◌-◌, ◌^◌, ◌++◌, ◌∷◌, ◌∙◌, [], ap, arith, insert, length, refl, rules, sym, vec_len, List, ℕ}
 use Rattle.std.specs.List.{concat}
 use Rattle.bits.proofs.laws.BlockLaws.{size_put}
-use Rattle.bits.proofs.laws.MoveLaws.{inserted_pair}
+use Rattle.bits.proofs.laws.BlockEditLaws.{inserted_pair, IsPut, begins_fit, kept_as, put_first_kept, put_kept, put_shown, rewritten}
 use Rattle.bits.proofs.laws.BlockPlaceLaws.{IsHeld, begins_are, held, held_read}
-use Rattle.bits.proofs.laws.BlockEditLaws.{IsPut, begins_fit, kept_as, put_first_kept, put_kept, put_shown, rewritten}
 use Rattle.bits.proofs.blocks.Blocks.put_pair.Goals.{After-holder-block, In_ok-insert_pair-2}
 use Rattle.bits.proofs.blocks.Blocks.put_pair.Goals as goal
 

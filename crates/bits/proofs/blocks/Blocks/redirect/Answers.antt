@@ -2,7 +2,7 @@ use Rattle.std.proofs.Common.{◌∙◌, ◌++◌, ap, map, refl, List, ℕ}
 use Rattle.std.specs.List.{concat}
 use Rattle.bits.specs.steps.Held.{redirected}
 use Rattle.bits.proofs.laws.BlockEditLaws.{kept_as, map_kept, map_shown}
-use Rattle.bits.proofs.laws.SlotRowLaws.{all_written}
+use Rattle.bits.proofs.laws.HeldLaws.{all_written}
 use Rattle.bits.proofs.blocks.Blocks.redirect.Goals as goal
 
 pub invariant_of-self : goal.invariant_of-self

@@ -1,7 +1,7 @@
 use Rattle.std.proofs.Common.{◌≡◌, ℕ, ◌-◌, ◌+◌, ◌*◌, ◌<◌, ◌%◌, false, arith, get_or, length, subst, List}
 use Rattle.std.proofs.lemmas.Bool.{ne_eqb}
 use Rattle.bits.specs.steps.Held.{GivesUp}
-use Rattle.bits.specs.steps.RowParts.{part_row}
+use Rattle.bits.specs.steps.StoredRows.{part_row}
 use Rattle.bits.specs.steps.Packing.{low_bit}
 use Rattle.bits.proofs.laws.PartLaws.{given_after_part, given_up_by_part}
 use Rattle.bits.proofs.row_part.RowPart.give_up.Goals.{else-at-first-2-via-then-at-first-2+else-self-eq1, else-at-first-2-via-else-at-first-2}

@@ -1,5 +1,5 @@
 use Rattle.std.proofs.Common.{◌≡◌, ℕ, ◌-◌, ◌+◌, arith, rules, subst}
-use Rattle.bits.specs.steps.RowMoves.{GivesWordsUp}
+use Rattle.bits.specs.steps.Held.{GivesWordsUp}
 use Rattle.bits.proofs.laws.PartLaws.{padded, part_slides_down, first_part_moves_down}
 use Rattle.bits.proofs.row_part.RowPart.give_words_up.Goals as goal
 

@@ -1,6 +1,6 @@
 use Rattle.std.proofs.Common.{◌≡◌, inl, inr, ℕ, ◌-◌, ◌+◌, ◌*◌, ◌⊎◌, false, arith, length, min, subst, List}
 use Rattle.bits.specs.steps.Held.{TakesIn}
-use Rattle.bits.specs.steps.RowParts.{part_row}
+use Rattle.bits.specs.steps.StoredRows.{part_row}
 use Rattle.bits.proofs.laws.PartLaws.{taken_in_part}
 use Rattle.bits.proofs.row_part.RowPart.take_in.Goals.{else-top-via-then-top+else-self-width, else-top-via-else-top}
 use Rattle.bits.proofs.row_part.RowPart.take_in.Goals as goal

@@ -1,5 +1,5 @@
 use Rattle.std.proofs.Common.{arith, inl, inr}
-use Rattle.bits.proofs.laws.RowWordsLaws.{four_blank, four_kept, length-words_of}
+use Rattle.bits.proofs.laws.PartLaws.{four_blank, four_kept, length-words_of}
 use Rattle.bits.proofs.row_words.RowWords.four.Goals as goal
 
 pub returns-then-at-self : goal.returns-then-at-self

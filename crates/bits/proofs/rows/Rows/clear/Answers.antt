@@ -3,10 +3,10 @@ use Rattle.std.proofs.lemmas.List.{length-take-le}
 use Rattle.bits.specs.steps.Held.{AreHeld, AreApart}
 use Rattle.bits.specs.steps.Summaries.{AreSummaries}
 use Rattle.bits.proofs.laws.RowsLaws.{row_there}
-use Rattle.bits.proofs.laws.PlaceLaws.{cleared_held, cleared_room, cleared_shown}
+use Rattle.bits.proofs.laws.HeldLaws.{cleared_held, cleared_room, cleared_shown}
 use Rattle.bits.proofs.laws.SlotWordsLaws.{kept_as_wide}
 use Rattle.bits.proofs.laws.SummaryLaws.{cleared_summed}
-use Rattle.bits.proofs.laws.TwoSlotLaws.{apart_kept}
+use Rattle.bits.proofs.laws.SlotLaws.{apart_kept}
 use Rattle.bits.proofs.rows.Rows.clear.Goals as goal
 
 pub renumber-requires-clause-two : goal.renumber-requires-clause-two

@@ -2,7 +2,7 @@ use Rattle.std.proofs.Common.{◌≡◌, ◌<◌, ◌+◌, ◌∙◌, ap, arith,
 use Rattle.bits.specs.Rows.{RowsAndRoom}
 use Rattle.bits.specs.steps.Held.{bits_in}
 use Rattle.bits.proofs.laws.RowsLaws.{row_there, slot_below, slot_read}
-use Rattle.bits.proofs.laws.SlotRowLaws.{IsDoubled, doubled_shown, doubled_size}
+use Rattle.bits.proofs.laws.HeldLaws.{IsDoubled, doubled_shown, doubled_size}
 use Rattle.bits.proofs.laws.SlotWordsLaws.{kept_as_wide}
 use Rattle.bits.proofs.laws.SummaryLaws.{doubled_both, pushed}
 use Rattle.bits.proofs.rows.Rows.duplicate.Goals.{After-get-from, After-push}

@@ -2,9 +2,8 @@ use Rattle.std.proofs.Common.{◌≡◌, ◌<◌, ◌+◌, ◌∙◌, ap, arith,
 use Rattle.std.proofs.lemmas.List.{length-map}
 use Rattle.bits.specs.Rows.{RowsAndRoom}
 use Rattle.bits.specs.steps.Held.{bits_in}
-use Rattle.bits.proofs.laws.CopyLaws.{IsCopiedTwice, copied_both, copied_shown, copied_size, pair_inserted, pushed_twice}
+use Rattle.bits.proofs.laws.SlotWordsLaws.{IsCopiedTwice, copied_both, copied_shown, copied_size, pair_inserted, pushed_twice, kept_as_wide, twice_appended}
 use Rattle.bits.proofs.laws.RowsLaws.{row_there, slot_below, slot_read}
-use Rattle.bits.proofs.laws.SlotWordsLaws.{kept_as_wide, twice_appended}
 use Rattle.bits.proofs.rows.Rows.duplicate_twice.Goals.{After-get-from, After-push_reserved-in-Ok}
 use Rattle.bits.proofs.rows.Rows.duplicate_twice.Goals as goal
 

@@ -1,7 +1,7 @@
 use Rattle.std.proofs.Common.{◌≡◌, ◌+◌, ◌-◌, ◌*◌, ◌∙◌, ap, arith, map, insert, false, List, Bool}
 use Rattle.bits.specs.steps.Held.{bits_in}
 use Rattle.bits.specs.Rows.{RowsAndRoom}
-use Rattle.bits.proofs.laws.PlaceLaws.{place_at_most, opened_held, opened_shown, appended_held, appended_shown}
+use Rattle.bits.proofs.laws.HeldLaws.{place_at_most, opened_held, opened_shown, appended_held, appended_shown}
 use Rattle.bits.proofs.laws.SlotWordsLaws.{kept_as_wide}
 use Rattle.bits.proofs.laws.SummaryLaws.{summed_again}
 use Rattle.bits.proofs.rows.Rows.insert_column.Goals as goal

@@ -3,7 +3,7 @@ use Rattle.std.proofs.lemmas.List.Edits.{length-remove}
 use Rattle.bits.specs.Rows.{RowsAndRoom}
 use Rattle.bits.specs.steps.Held.{bits_in, redirected}
 use Rattle.bits.proofs.laws.RowsLaws.{row_there, slot_below, slot_read}
-use Rattle.bits.proofs.laws.SlotRowLaws.{IsTakenOut, taken_shown, taken_size}
+use Rattle.bits.proofs.laws.HeldLaws.{IsTakenOut, taken_shown, taken_size}
 use Rattle.bits.proofs.laws.SlotWordsLaws.{kept_as_wide, taken_out}
 use Rattle.bits.proofs.laws.SummaryLaws.{taken_both}
 use Rattle.bits.proofs.rows.Rows.remove.Goals.{After-len-last, After-redirect}

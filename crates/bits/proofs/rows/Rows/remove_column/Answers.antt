@@ -1,7 +1,7 @@
 use Rattle.std.proofs.Common.{◌≡◌, ◌-◌, ◌*◌, ◌∙◌, ap, arith, map, remove, List, Bool}
 use Rattle.bits.specs.steps.Held.{bits_in}
 use Rattle.bits.specs.Rows.{RowsAndRoom}
-use Rattle.bits.proofs.laws.PlaceLaws.{place_below, closed_held, closed_shown}
+use Rattle.bits.proofs.laws.HeldLaws.{place_below, closed_held, closed_shown}
 use Rattle.bits.proofs.laws.SlotWordsLaws.{kept_as_wide}
 use Rattle.bits.proofs.laws.SummaryLaws.{summed_again}
 use Rattle.bits.proofs.rows.Rows.remove_column.Goals as goal

@@ -1,7 +1,7 @@
 use Rattle.std.proofs.Common.{◌≡◌, ◌-◌, ◌*◌, ◌∙◌, ap, arith, map, drop}
 use Rattle.bits.specs.steps.Held.{bits_in}
 use Rattle.bits.specs.Rows.{RowsAndRoom, two_words}
-use Rattle.bits.proofs.laws.PlaceLaws.{place_at_most}
+use Rattle.bits.proofs.laws.HeldLaws.{place_at_most}
 use Rattle.bits.proofs.laws.WordMoveLaws.{lowered_held, lowered_shown}
 use Rattle.bits.proofs.laws.SlotWordsLaws.{kept_as_wide}
 use Rattle.bits.proofs.laws.SummaryLaws.{summed_again}

@@ -1,7 +1,7 @@
 use Rattle.std.proofs.Common.{◌∙◌, ap, arith, length, refl, ℕ, List, Bool, []}
 use Rattle.std.proofs.lemmas.List.{get_or_default}
 use Rattle.bits.specs.Rows.{RowsAndRoom}
-use Rattle.bits.proofs.laws.PlaceLaws.{doubled_room, widened_held, widened_shown}
+use Rattle.bits.proofs.laws.HeldLaws.{doubled_room, widened_held, widened_shown}
 use Rattle.bits.proofs.laws.RowsLaws.{row_len}
 use Rattle.bits.proofs.laws.SlotWordsLaws.{kept_again, widened_slots}
 use Rattle.bits.proofs.laws.SummaryLaws.{widened_summed}

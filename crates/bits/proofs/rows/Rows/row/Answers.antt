@@ -1,7 +1,7 @@
 use Rattle.std.proofs.Common.{◌∙◌, sym, ap, arith, [], get_or, subst, take, ℕ, List}
 use Rattle.bits.specs.Rows.{RowsAndRoom}
 use Rattle.bits.specs.steps.Packing.{IsPacked, all_bits}
-use Rattle.bits.specs.steps.RowWords.{words_of}
+use Rattle.bits.specs.steps.StoredRows.{words_of}
 use Rattle.bits.proofs.laws.RowsLaws.{row_there, lent_packed, lent_bits, row_size, slot_below, slot_read}
 use Rattle.bits.proofs.rows.Rows.row.Goals as goal
 

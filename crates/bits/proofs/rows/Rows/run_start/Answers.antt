@@ -2,9 +2,9 @@ use Rattle.std.proofs.Common.{◌≡◌, ◌<◌, ◌≤◌, ◌+◌, ◌-◌, �
 use Rattle.std.proofs.lemmas.Bool.{cases_lt}
 use Rattle.bits.specs.steps.Held.{words_in}
 use Rattle.bits.specs.steps.Packing.{all_bits}
-use Rattle.bits.proofs.laws.PlaceLaws.{place_below}
+use Rattle.bits.proofs.laws.HeldLaws.{place_below}
 use Rattle.bits.proofs.laws.RowsLaws.{row_there}
-use Rattle.bits.proofs.laws.SlotRunLaws.{IsRun, bit_lent, run_below, run_up_to}
+use Rattle.bits.proofs.laws.RunLaws.{IsRun, bit_lent, run_below, run_up_to}
 use Rattle.bits.proofs.rows.Rows.run_start.Goals.{After-run_to-slots, After-alike_from-alike}
 use Rattle.bits.proofs.rows.Rows.run_start.Goals as goal
 

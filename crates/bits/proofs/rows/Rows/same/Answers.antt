@@ -1,6 +1,6 @@
 use Rattle.std.proofs.Common.{◌≡◌, ◌∙◌, sym, ap, subst, ℕ, take, get_or, []}
 use Rattle.bits.specs.steps.Packing.{IsPacked, all_bits}
-use Rattle.bits.specs.steps.RowWords.{words_of}
+use Rattle.bits.specs.steps.StoredRows.{words_of}
 use Rattle.bits.proofs.laws.RowsLaws.{row_len}
 use Rattle.bits.proofs.rows.Rows.same.Goals as goal
 

@@ -1,10 +1,9 @@
 use Rattle.std.proofs.Common.{◌≡◌, ◌∙◌, sym, ap, subst, ℕ, List, Bool, take, get_or, []}
 use Rattle.std.specs.List.{remove}
 use Rattle.bits.specs.steps.Packing.{IsPacked, all_bits}
-use Rattle.bits.specs.steps.RowWords.{words_of}
+use Rattle.bits.specs.steps.StoredRows.{words_of}
 use Rattle.bits.proofs.laws.RowsLaws.{row_len}
-use Rattle.bits.proofs.laws.SameLaws.{same_size}
-use Rattle.bits.proofs.laws.BesideLaws.{packed_alike, alike_packed}
+use Rattle.bits.proofs.laws.SameLaws.{same_size, packed_alike, alike_packed}
 use Rattle.bits.proofs.rows.Rows.same_beside.Goals as goal
 
 pub same_beside-requires : goal.same_beside-requires

@@ -4,8 +4,7 @@ use Rattle.bits.specs.Rows.{RowsAndRoom}
 use Rattle.bits.specs.steps.Held.{bits_in}
 use Rattle.bits.specs.steps.Summaries.{IsMarked}
 use Rattle.bits.proofs.laws.RowsLaws.{bit_there, row_there, slot_below, slot_read}
-use Rattle.bits.proofs.laws.RunLaws.{one_written}
-use Rattle.bits.proofs.laws.SlotRunLaws.{IsRun, run_apart, run_below, run_held, run_of_one, run_written}
+use Rattle.bits.proofs.laws.RunLaws.{one_written, IsRun, run_apart, run_below, run_held, run_of_one, run_written}
 use Rattle.bits.proofs.laws.SlotWordsLaws.{WrittenAndSummed, kept_as_wide, none_written, slot_written}
 use Rattle.bits.proofs.rows.Rows.set.Goals.{After-get-slot, After-marked}
 use Rattle.bits.proofs.rows.Rows.set.Goals as goal

@@ -2,10 +2,9 @@ use Rattle.std.proofs.Common.{◌≡◌, ◌<◌, ◌+◌, ◌∙◌, sym, ap, a
 use Rattle.bits.specs.Rows.{RowsAndRoom, IsRunWritten}
 use Rattle.bits.specs.steps.Held.{bits_in, AreHeld, AreWritten}
 use Rattle.bits.specs.steps.Summaries.{AreSummaries}
-use Rattle.bits.proofs.laws.PlaceLaws.{place_below}
+use Rattle.bits.proofs.laws.HeldLaws.{place_below, all_written}
 use Rattle.bits.proofs.laws.RowsLaws.{row_there}
-use Rattle.bits.proofs.laws.SlotRowLaws.{all_written}
-use Rattle.bits.proofs.laws.SlotRunLaws.{IsRun, run_apart, run_below, run_from, run_held, run_written}
+use Rattle.bits.proofs.laws.RunLaws.{IsRun, run_apart, run_below, run_from, run_held, run_written}
 use Rattle.bits.proofs.laws.SlotWordsLaws.{kept_as_wide}
 use Rattle.bits.proofs.laws.SummaryLaws.{summed_again}
 use Rattle.bits.proofs.rows.Rows.set_part.Goals.{After-min, After-write_each}

@@ -2,11 +2,9 @@ use Rattle.std.proofs.Common.{◌≡◌, ◌+◌, ◌*◌, ◌≤◌, ◌++◌, 
 use Rattle.std.specs.Vec.{vec_capacity}
 use Rattle.bits.specs.declared.whole_rows.Kept.{Kept}
 use Rattle.bits.specs.declared.whole_rows.Kept.TheVariants as kept
-use Rattle.bits.specs.steps.Held.{words_in}
-use Rattle.bits.specs.steps.SlotWords.{IsAppended}
+use Rattle.bits.specs.steps.Held.{words_in, IsAppended}
 use Rattle.bits.proofs.laws.GrownLaws.{part_appended, whole_appended}
-use Rattle.bits.proofs.laws.SlotCallLaws.{Holds, IsFound, found, same_holds}
-use Rattle.bits.proofs.laws.StoredLaws.{shown, whole_within}
+use Rattle.bits.proofs.laws.StoredLaws.{Holds, IsFound, found, same_holds, shown, whole_within}
 use Rattle.bits.proofs.slot_words.SlotWords.append.Goals.{In_ok-reserve-2, In-Part, In-Whole, After-push_reserved, After-push_reserved-in-Whole-2}
 use Rattle.bits.proofs.slot_words.SlotWords.append.Goals as goal
 

@@ -1,7 +1,7 @@
 use Rattle.std.proofs.Common.{◌*◌, ◌∙◌, ap, arith, replicate, set, List, ℕ}
 use Rattle.bits.specs.declared.whole_rows.Kept.{Kept}
 use Rattle.bits.specs.declared.whole_rows.Kept.TheVariants as kept
-use Rattle.bits.specs.steps.SlotWords.{WordsInSlots}
+use Rattle.bits.specs.steps.Held.{WordsInSlots}
 use Rattle.bits.specs.steps.StoredRows.{all_words}
 use Rattle.bits.proofs.laws.GrownLaws.{two_blank}
 use Rattle.bits.proofs.slot_words.SlotWords.clear.Goals as goal

@@ -1,14 +1,11 @@
 use Rattle.std.proofs.Common.{◌+◌, ◌∙◌, arith, sym, length, set, subst, List, ℕ}
 use Rattle.std.specs.Vec.{vec_capacity}
 use Rattle.bits.specs.declared.whole_rows.Kept.TheVariants as kept
-use Rattle.bits.specs.steps.Held.{words_in}
+use Rattle.bits.specs.steps.Held.{words_in, Makes}
 use Rattle.bits.specs.steps.Packing.{all_bits}
 use Rattle.bits.specs.steps.Summaries.{IsSummaryOf}
-use Rattle.bits.specs.steps.RowMoves.{Makes}
-use Rattle.bits.specs.steps.RowParts.{IsWithin}
-use Rattle.bits.specs.steps.StoredRows.{IsRowChanged}
-use Rattle.bits.proofs.laws.StoredLaws.{kept_whole, room_for_part, whole_stored, whole_within}
-use Rattle.bits.proofs.laws.SlotCallLaws.{Holds, IsFound, found, made_holds, made_seen, made_size, part_holds, part_seen, row_found, row_seen, set_seen, whole_holds, whole_seen}
+use Rattle.bits.specs.steps.StoredRows.{IsWithin, IsRowChanged}
+use Rattle.bits.proofs.laws.StoredLaws.{kept_whole, room_for_part, whole_stored, whole_within, Holds, IsFound, found, made_holds, made_seen, made_size, part_holds, part_seen, row_found, row_seen, set_seen, whole_holds, whole_seen}
 use Rattle.bits.proofs.slot_words.SlotWords.move_bits.Goals.{In-Part, In-Whole, After-add, After-make, After-move_row}
 use Rattle.bits.proofs.slot_words.SlotWords.move_bits.Goals as goal
 

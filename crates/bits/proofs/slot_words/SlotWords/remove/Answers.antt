@@ -3,10 +3,9 @@ use Rattle.std.proofs.lemmas.List.{get_or_read}
 use Rattle.std.specs.Vec.{vec_capacity}
 use Rattle.bits.specs.declared.whole_rows.Kept.{Kept}
 use Rattle.bits.specs.declared.whole_rows.Kept.TheVariants as kept
-use Rattle.bits.specs.steps.SlotWords.{WordsInSlots, IsMovedInto}
+use Rattle.bits.specs.steps.Held.{WordsInSlots, IsMovedInto}
 use Rattle.bits.proofs.laws.LeftLaws.{IsLeft, left_holds, removed}
-use Rattle.bits.proofs.laws.SlotCallLaws.{Holds}
-use Rattle.bits.proofs.laws.StoredLaws.{kept_whole, shown, slot_there}
+use Rattle.bits.proofs.laws.StoredLaws.{Holds, kept_whole, shown, slot_there}
 use Rattle.bits.proofs.slot_words.SlotWords.remove.Goals.{After-index-end}
 use Rattle.bits.proofs.slot_words.SlotWords.remove.Goals as goal
 

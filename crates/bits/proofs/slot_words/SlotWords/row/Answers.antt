@@ -2,10 +2,9 @@ use Rattle.std.proofs.Common.{◌≡◌, ◌+◌, ◌-◌, ◌*◌, ◌++◌, �
 use Rattle.std.proofs.lemmas.List.{length-drop, length-take-le, take-take, take_at}
 use Rattle.std.specs.Vec.{vec_capacity}
 use Rattle.bits.specs.declared.whole_rows.Kept.TheVariants as kept
-use Rattle.bits.specs.steps.SlotWords.{WordsInSlots}
+use Rattle.bits.specs.steps.Held.{WordsInSlots}
 use Rattle.bits.proofs.laws.PartLaws.{padded_front}
-use Rattle.bits.proofs.laws.SlotCallLaws.{IsFound, found, row_found}
-use Rattle.bits.proofs.laws.StoredLaws.{kept_part, whole_within}
+use Rattle.bits.proofs.laws.StoredLaws.{IsFound, found, row_found, kept_part, whole_within}
 use Rattle.bits.proofs.slot_words.SlotWords.row.Goals.{In-Part, In-Whole}
 use Rattle.bits.proofs.slot_words.SlotWords.row.Goals as goal
 

@@ -1,9 +1,8 @@
 use Rattle.std.proofs.Common.{◌≡◌, ◌+◌, ◌*◌, ◌<◌, ◌≤◌, ◌∙◌, ap, arith, length, refl, subst, sym, List, ℕ}
 use Rattle.std.proofs.lemmas.List.{take_all}
 use Rattle.std.proofs.lemmas.Nat.{mul-le}
-use Rattle.bits.specs.steps.Held.{words_in}
-use Rattle.bits.specs.steps.SlotWords.{WordsInSlots}
-use Rattle.bits.proofs.laws.RowListLaws.{cut_more}
+use Rattle.bits.specs.steps.Held.{words_in, WordsInSlots}
+use Rattle.bits.proofs.laws.RowsLaws.{cut_more}
 use Rattle.bits.proofs.laws.StoredLaws.{shown_size}
 use Rattle.bits.proofs.slot_words.SlotWords.truncate.Goals as goal
 

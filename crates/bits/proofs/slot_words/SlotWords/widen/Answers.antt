@@ -1,6 +1,5 @@
 use Rattle.std.proofs.Common.{◌≡◌, ◌-◌, ◌*◌, ◌++◌, ◌∙◌, ap, arith, length, replicate, subst, List, ℕ}
-use Rattle.bits.specs.steps.Held.{words_in}
-use Rattle.bits.specs.steps.SlotWords.{WordsInSlots, IsWidened}
+use Rattle.bits.specs.steps.Held.{words_in, WordsInSlots, IsWidened}
 use Rattle.bits.proofs.laws.GrownLaws.{slots_widened, widened_stored}
 use Rattle.bits.proofs.laws.StoredLaws.{shown}
 use Rattle.bits.proofs.slot_words.SlotWords.widen.Goals as goal

@@ -2,10 +2,9 @@ use Rattle.std.proofs.Common.{◌≡◌, ◌+◌, ◌*◌, ◌∙◌, ap, arith,
 use Rattle.std.proofs.lemmas.List.{get_or_read}
 use Rattle.std.specs.Vec.{vec_capacity}
 use Rattle.bits.specs.declared.whole_rows.Kept.TheVariants as kept
-use Rattle.bits.specs.steps.SlotWords.{WordsInSlots}
+use Rattle.bits.specs.steps.Held.{WordsInSlots}
 use Rattle.bits.proofs.laws.RowsLaws.{word_in}
-use Rattle.bits.proofs.laws.SlotCallLaws.{IsFound, found, row_found}
-use Rattle.bits.proofs.laws.StoredLaws.{whole_within}
+use Rattle.bits.proofs.laws.StoredLaws.{IsFound, found, row_found, whole_within}
 use Rattle.bits.proofs.slot_words.SlotWords.word.Goals.{In-Part, In-Whole}
 use Rattle.bits.proofs.slot_words.SlotWords.word.Goals as goal
 

@@ -4,12 +4,10 @@ use Rattle.std.specs.Bool.{IsTrue}
 use Rattle.std.proofs.lemmas.Bool.{false≢true}
 use Rattle.bits.specs.declared.whole_rows.Kept.{Kept}
 use Rattle.bits.specs.declared.whole_rows.Kept.TheVariants as kept
-use Rattle.bits.specs.steps.Held.{Writes}
-use Rattle.bits.specs.steps.RowParts.{part_row, IsWithin}
-use Rattle.bits.specs.steps.SlotWords.{WordsInSlots, IsSlotChanged}
+use Rattle.bits.specs.steps.Held.{Writes, WordsInSlots, IsSlotChanged}
+use Rattle.bits.specs.steps.StoredRows.{part_row, IsWithin}
 use Rattle.bits.proofs.laws.PartLaws.{unkept_written}
-use Rattle.bits.proofs.laws.StoredLaws.{kept_part, kept_whole, set_same, shown, whole_within}
-use Rattle.bits.proofs.laws.SlotCallLaws.{Holds, IsFound, found, part_holds, part_seen, whole_holds, whole_seen}
+use Rattle.bits.proofs.laws.StoredLaws.{kept_part, kept_whole, set_same, shown, whole_within, Holds, IsFound, found, part_holds, part_seen, whole_holds, whole_seen}
 use Rattle.bits.proofs.slot_words.SlotWords.write.Goals.{In-Part, In-Whole, After-write, After-write_row}
 use Rattle.bits.proofs.slot_words.SlotWords.write.Goals as goal
 

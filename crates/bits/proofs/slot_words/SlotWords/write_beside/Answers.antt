@@ -2,10 +2,8 @@ use Rattle.std.proofs.Common.{◌+◌, arith, length, subst, List, ℕ}
 use Rattle.std.specs.Vec.{vec_capacity}
 use Rattle.bits.specs.declared.whole_rows.Kept.TheVariants as kept
 use Rattle.bits.specs.steps.Held.{Writes}
-use Rattle.bits.specs.steps.RowParts.{part_row, IsWithin}
-use Rattle.bits.specs.steps.StoredRows.{IsRowChanged}
-use Rattle.bits.proofs.laws.StoredLaws.{kept_whole, room_for_part, whole_within}
-use Rattle.bits.proofs.laws.SlotCallLaws.{IsFound, found, made_holds, made_seen, made_size, part_holds, part_seen, whole_holds, whole_seen}
+use Rattle.bits.specs.steps.StoredRows.{part_row, IsWithin, IsRowChanged}
+use Rattle.bits.proofs.laws.StoredLaws.{kept_whole, room_for_part, whole_within, IsFound, found, made_holds, made_seen, made_size, part_holds, part_seen, whole_holds, whole_seen}
 use Rattle.bits.proofs.slot_words.SlotWords.write_beside.Goals.{In-Part, In-Whole, After-add, After-write, After-write_row}
 use Rattle.bits.proofs.slot_words.SlotWords.write_beside.Goals as goal
 

@@ -1,7 +1,6 @@
 use Rattle.std.proofs.Common.{◌∙◌, sym, arith}
 use Rattle.std.proofs.Math.Bool.{not, beq}
-use Rattle.bits.proofs.laws.TurnLaws.{differ}
-use Rattle.bits.proofs.laws.TurnedRowsLaws.{seen_rows, kept_size, seen_long, bit_seen}
+use Rattle.bits.proofs.laws.TurnedRowsLaws.{differ, seen_rows, kept_size, seen_long, bit_seen}
 use Rattle.bits.proofs.turned_rows.TurnedRows.get.Goals as goal
 
 pub get-requires-clause-place : goal.get-requires-clause-place

@@ -1,7 +1,6 @@
 use Rattle.std.proofs.Common.{ap, arith}
 use Rattle.bits.specs.MarginRows.{RowsInRoom}
-use Rattle.bits.proofs.laws.LentLaws.{lent_packed, lent_bits, lent_summed}
-use Rattle.bits.proofs.laws.TurnedRowsLaws.{seen_rows, kept_size, seen_long, row_seen}
+use Rattle.bits.proofs.laws.TurnedRowsLaws.{lent_packed, lent_bits, lent_summed, seen_rows, kept_size, seen_long, row_seen}
 use Rattle.bits.proofs.turned_rows.TurnedRows.row.Goals as goal
 
 pub returns-clause-own : goal.returns-clause-own

@@ -1,7 +1,6 @@
 use Rattle.std.proofs.Common.{◌∙◌, ◌-◌, ◌+◌, ◌<◌, ap, sym, arith, length, get_or, false, [], Bool}
 use Rattle.std.proofs.Math.Bool.{xor}
-use Rattle.bits.proofs.laws.TurnLaws.{same_bit}
-use Rattle.bits.proofs.laws.TurnedRowsLaws.{seen_rows, each_long, bit_seen, turn_of}
+use Rattle.bits.proofs.laws.TurnedRowsLaws.{same_bit, seen_rows, each_long, bit_seen, turn_of}
 use Rattle.bits.proofs.turned_rows.TurnedRows.run_start.Goals as goal
 
 pub run_start-start-requires-clause-place : goal.run_start-start-requires-clause-place

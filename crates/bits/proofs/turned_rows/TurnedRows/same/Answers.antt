@@ -1,7 +1,6 @@
 use Rattle.std.proofs.Common.{◌∙◌, ap, sym, List, Bool}
 use Rattle.bits.specs.TurnedRows.{turned}
-use Rattle.bits.proofs.laws.TurnLaws.{same-turned}
-use Rattle.bits.proofs.laws.TurnedRowsLaws.{seen_rows, row_seen, turn_of}
+use Rattle.bits.proofs.laws.TurnedRowsLaws.{same-turned, seen_rows, row_seen, turn_of}
 use Rattle.bits.proofs.turned_rows.TurnedRows.same.Goals as goal
 
 pub returns : goal.returns

@@ -1,8 +1,7 @@
 use Rattle.std.proofs.Common.{◌∙◌, ap, sym, arith, List, Bool}
 use Rattle.std.specs.List.{remove}
 use Rattle.bits.specs.TurnedRows.{turned}
-use Rattle.bits.proofs.laws.TurnLaws.{same-turned}
-use Rattle.bits.proofs.laws.TurnedRowsLaws.{seen_rows, kept_size, seen_long, beside_seen, turn_of}
+use Rattle.bits.proofs.laws.TurnedRowsLaws.{same-turned, seen_rows, kept_size, seen_long, beside_seen, turn_of}
 use Rattle.bits.proofs.turned_rows.TurnedRows.same_beside.Goals as goal
 
 pub same_beside-requires-clause-place : goal.same_beside-requires-clause-place

@@ -1,8 +1,7 @@
 use Rattle.std.proofs.Common.{◌∙◌, ap, arith, get_or, set, [], List, Bool}
 use Rattle.std.proofs.Math.Bool.{not, beq}
 use Rattle.bits.specs.TurnedRows.{turned_rows}
-use Rattle.bits.proofs.laws.TurnLaws.{differ}
-use Rattle.bits.proofs.laws.TurnedRowsLaws.{seen_rows, kept_size, seen_long, written_seen}
+use Rattle.bits.proofs.laws.TurnedRowsLaws.{differ, seen_rows, kept_size, seen_long, written_seen}
 use Rattle.bits.proofs.turned_rows.TurnedRows.set.Goals as goal
 
 pub get-turn-requires-clause-place : goal.get-turn-requires-clause-place

@@ -2,8 +2,7 @@ use Rattle.std.proofs.Common.{◌∙◌, ◌+◌, ◌<◌, arith, subst, [], Boo
 use Rattle.std.proofs.Math.Bool.{not, beq}
 use Rattle.bits.specs.Rows.{IsRunWritten}
 use Rattle.bits.proofs.laws.RunLaws.{run_alike, run_seen}
-use Rattle.bits.proofs.laws.TurnLaws.{differ}
-use Rattle.bits.proofs.laws.TurnedRowsLaws.{seen_rows, kept_size, each_long}
+use Rattle.bits.proofs.laws.TurnedRowsLaws.{differ, seen_rows, kept_size, each_long}
 use Rattle.bits.proofs.turned_rows.TurnedRows.set_run.Goals as goal
 
 pub get-turn-requires-clause-place : goal.get-turn-requires-clause-place

@@ -1,9 +1,9 @@
 use Rattle.std.proofs.Common.{ap, ◌<◌, ◌∙◌, ℕ, List, arith, length, map, subst, sym}
 use Rattle.std.specs.Prelude.{slice_index}
 use Rattle.std.proofs.lemmas.List.{length-set}
-use Rattle.classify.specs.classifier.Classifier.{Classified, ClassifiedAndRoom, IsClassifierOf}
+use Rattle.classify.specs.Classifier.{Classified, ClassifiedAndRoom, IsClassifierOf}
 use Rattle.classify.specs.steps.Fields.{shown_by, shown_line}
-use Rattle.classify.specs.steps.Whole.{AreOthers}
+use Rattle.classify.specs.steps.Kept.{AreOthers}
 use Rattle.classify.proofs.laws.classifier.RuleLaws.{rules_answered}
 use Rattle.classify.proofs.laws.search.CandidateLaws.{at_more, at_place, common_answers}
 use Rattle.classify.proofs.laws.search.NextLaws.{others_stand}

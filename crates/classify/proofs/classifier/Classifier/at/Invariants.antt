@@ -1,7 +1,7 @@
 use Rattle.std.proofs.Common.{◌≡◌, length, map}
 use Rattle.fields.specs.declared.numbers.field.TheConstants.{FIELDS}
 use Rattle.classify.specs.steps.Fields.{shown_line}
-use Rattle.classify.specs.steps.Found.{AreAtPoint}
+use Rattle.classify.specs.steps.CommonPlaces.{AreAtPoint}
 use Rattle.classify.proofs.classifier.Classifier.at.Given as goal
 
 abbrev pub invariant-loop-i : goal.invariant-loop-i

@@ -1,9 +1,8 @@
 use Rattle.std.proofs.Common.{arith, get_or, length, ◌≡◌, ◌≤◌, ◌+◌, ◌∙◌, subst}
 use Rattle.fields.specs.declared.numbers.field.TheConstants.{FIELDS}
 use Rattle.classify.specs.steps.Fields.{room_beside}
-use Rattle.classify.specs.classifier.Classifier.{ClassifiedAndRoom}
-use Rattle.classify.proofs.laws.classifier.ClassifierLaws.{classifier_empty, kept_empty}
-use Rattle.classify.proofs.laws.classifier.RoomLaws.{room_of_all, none_before}
+use Rattle.classify.specs.Classifier.{ClassifiedAndRoom}
+use Rattle.classify.proofs.laws.classifier.ClassifierLaws.{classifier_empty, kept_empty, room_of_all, none_before}
 use Rattle.classify.proofs.laws.classifier.RuleLaws.{no_rules}
 use Rattle.classify.proofs.laws.classifier.WholeLaws.{whole_empty}
 use Rattle.classify.proofs.classifier.Classifier.clear.Goals as goal

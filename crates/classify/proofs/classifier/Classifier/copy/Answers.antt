@@ -1,7 +1,6 @@
 use Rattle.std.proofs.Common.{◌≡◌, ◌<◌, ◌∙◌, ap, arith, get_or, length, List, ℕ, Bool, of_calls, sym}
-use Rattle.classify.specs.classifier.Classifier.{ClassifiedAndRoom}
-use Rattle.classify.proofs.laws.classifier.ClassifierLaws.{copied, kept_shown, same_shown}
-use Rattle.classify.proofs.laws.classifier.RoomLaws.{margin_by}
+use Rattle.classify.specs.Classifier.{ClassifiedAndRoom}
+use Rattle.classify.proofs.laws.classifier.ClassifierLaws.{copied, kept_shown, same_shown, margin_by}
 use Rattle.classify.proofs.laws.classifier.WholeLaws.{whole_same}
 use Rattle.classify.specs.steps.Fields.{shown_line}
 use Rattle.classify.specs.steps.Kept.{PiecesAndRoom}

@@ -2,11 +2,10 @@ use Rattle.std.proofs.Common.{get_or, ◌<◌, arith, ap, length, ◌+◌, ◌-�
 use Rattle.std.proofs.lemmas.Bool.{false≢true}
 use Rattle.fields.specs.declared.numbers.field.TheConstants.{FIELDS}
 use Rattle.fields.specs.numbers.Spans.{SpanSet}
-use Rattle.classify.specs.steps.Whole.{IsEverything}
-use Rattle.classify.specs.classifier.Classifier.{Classified, ClassifiedAndRoom, IsClassifierOf, HasNoNewCut}
+use Rattle.classify.specs.steps.Kept.{IsEverything}
+use Rattle.classify.specs.Classifier.{Classified, ClassifiedAndRoom, IsClassifierOf, HasNoNewCut}
 use Rattle.classify.specs.steps.Fields.{most_boxes, room_beside}
-use Rattle.classify.proofs.laws.classifier.ClassifierLaws.{no_set, classifier_with, sound_lines, still_sound, kept_shown, same_shown, no_new_cuts, on_err_anyway}
-use Rattle.classify.proofs.laws.classifier.RoomLaws.{each_line, used_room, kept_room, room_in_word}
+use Rattle.classify.proofs.laws.classifier.ClassifierLaws.{no_set, classifier_with, sound_lines, still_sound, kept_shown, same_shown, no_new_cuts, on_err_anyway, each_line, used_room, kept_room, room_in_word}
 use Rattle.classify.proofs.laws.classifier.WholeLaws.{whole_inserted, whole_same}
 use Rattle.classify.proofs.laws.classifier.RuleLaws.{rules_inserted}
 use Rattle.classify.proofs.classifier.Classifier.insert.Goals as goal

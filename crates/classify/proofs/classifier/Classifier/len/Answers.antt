@@ -1,6 +1,6 @@
 use Rattle.std.proofs.Common.{◌<◌, subst}
-use Rattle.classify.specs.classifier.Classifier.{ClassifiedAndRoom}
-use Rattle.classify.proofs.laws.classifier.RoomLaws.{last_words_room}
+use Rattle.classify.specs.Classifier.{ClassifiedAndRoom}
+use Rattle.classify.proofs.laws.classifier.ClassifierLaws.{last_words_room}
 use Rattle.classify.proofs.classifier.Classifier.len.Goals as goal
 
 pub returns-clause-room : goal.returns-clause-room

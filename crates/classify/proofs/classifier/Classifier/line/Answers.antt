@@ -1,6 +1,6 @@
 use Rattle.std.proofs.Common.{◌≡◌, ◌∙◌, arith}
 use Rattle.std.proofs.lemmas.Grind.{common_steps}
-use Rattle.classify.specs.classifier.Classifier.{line_on}
+use Rattle.classify.specs.Classifier.{line_on}
 use Rattle.classify.proofs.laws.classifier.RuleLaws.{rules_line}
 use Rattle.classify.proofs.classifier.Classifier.line.Goals as goal
 

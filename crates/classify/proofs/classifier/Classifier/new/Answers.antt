@@ -1,6 +1,5 @@
 use Rattle.std.proofs.Common.{arith, get_or, of_calls}
-use Rattle.classify.proofs.laws.classifier.ClassifierLaws.{classifier_empty, kept_empty}
-use Rattle.classify.proofs.laws.classifier.RoomLaws.{none_before}
+use Rattle.classify.proofs.laws.classifier.ClassifierLaws.{classifier_empty, kept_empty, none_before}
 use Rattle.classify.proofs.laws.classifier.RuleLaws.{no_rules}
 use Rattle.classify.proofs.laws.classifier.WholeLaws.{whole_empty}
 use Rattle.classify.proofs.classifier.Classifier.new.Goals as goal

@@ -1,6 +1,6 @@
 use Rattle.rules.specs.rule.Allows.{allows_each}
-use Rattle.classify.specs.classifier.Classifier.{box_matches}
-use Rattle.classify.proofs.laws.search.PassLaws.{by_answers}
+use Rattle.classify.specs.Classifier.{box_matches}
+use Rattle.classify.proofs.laws.search.NextLaws.{by_answers}
 use Rattle.classify.proofs.classifier.Classifier.next.Goals as goal
 
 pub returns-clause-boxes : goal.returns-clause-boxes

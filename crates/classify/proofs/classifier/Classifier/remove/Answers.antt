@@ -1,10 +1,9 @@
 use Rattle.std.proofs.Common.{arith, get_or, ap, length, ◌-◌, ◌<◌, ◌≡◌, ◌∙◌, sym, subst, rules}
 use Rattle.std.specs.Prelude.{slice_index}
 use Rattle.fields.specs.declared.numbers.field.TheConstants.{FIELDS}
-use Rattle.classify.specs.classifier.Classifier.{Classified, ClassifiedAndRoom, IsClassifierOf}
+use Rattle.classify.specs.Classifier.{Classified, ClassifiedAndRoom, IsClassifierOf}
 use Rattle.classify.specs.steps.Fields.{tops, room_beside}
-use Rattle.classify.proofs.laws.classifier.ClassifierLaws.{classifier_without}
-use Rattle.classify.proofs.laws.classifier.RoomLaws.{freed_room, margin_left}
+use Rattle.classify.proofs.laws.classifier.ClassifierLaws.{classifier_without, freed_room, margin_left}
 use Rattle.classify.proofs.laws.classifier.WholeLaws.{whole_removed}
 use Rattle.classify.proofs.laws.classifier.RuleLaws.{rules_removed}
 use Rattle.classify.proofs.classifier.Classifier.remove.Goals as goal

@@ -2,12 +2,11 @@ use Rattle.std.proofs.Common.{get_or, ◌<◌, arith, ap, length, ◌≤◌, Lis
 use Rattle.std.proofs.lemmas.Bool.{false≢true}
 use Rattle.fields.specs.declared.numbers.field.TheConstants.{FIELDS}
 use Rattle.fields.specs.numbers.Spans.{SpanSet}
-use Rattle.classify.specs.steps.Whole.{IsEverything}
-use Rattle.classify.specs.classifier.Classifier.{Classified, ClassifiedAndRoom, IsClassifierOf, HasNoNewCut}
+use Rattle.classify.specs.steps.Kept.{IsEverything}
+use Rattle.classify.specs.Classifier.{Classified, ClassifiedAndRoom, IsClassifierOf, HasNoNewCut}
 use Rattle.bits.specs.MarginRows.{Room}
 use Rattle.classify.specs.steps.Fields.{room_beside}
-use Rattle.classify.proofs.laws.classifier.ClassifierLaws.{no_set, classifier_written, sound_lines, still_sound, kept_shown, same_shown, no_new_cuts, on_err_anyway}
-use Rattle.classify.proofs.laws.classifier.RoomLaws.{kept_room, margin_by, same_keeps}
+use Rattle.classify.proofs.laws.classifier.ClassifierLaws.{no_set, classifier_written, sound_lines, still_sound, kept_shown, same_shown, no_new_cuts, on_err_anyway, kept_room, margin_by, same_keeps}
 use Rattle.classify.proofs.laws.classifier.WholeLaws.{whole_replaced, whole_same}
 use Rattle.classify.proofs.laws.classifier.RuleLaws.{rules_replaced}
 use Rattle.classify.proofs.classifier.Classifier.replace.Goals as goal

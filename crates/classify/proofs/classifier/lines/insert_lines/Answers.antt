@@ -2,10 +2,9 @@ use Rattle.std.proofs.Common.{arith, ap, subst, sym, get_or, length, ◌<◌, Li
 use Rattle.std.proofs.lemmas.Bool.{false≢true}
 use Rattle.bits.specs.MarginRows.{Room}
 use Rattle.fields.specs.numbers.Spans.{SpanSet}
-use Rattle.classify.specs.steps.Cuts.{CutsStart, IsApart}
-use Rattle.classify.specs.steps.Pieces.{IsRising, row_bits, row_in}
-use Rattle.classify.proofs.laws.classifier.RoomLaws.{margin_by, margin_taken}
-use Rattle.classify.proofs.laws.line.ShownLaws.{Cut}
+use Rattle.classify.specs.steps.Pieces.{CutsStart, IsApart, IsRising, row_bits, row_in}
+use Rattle.classify.proofs.laws.classifier.ClassifierLaws.{margin_by, margin_taken}
+use Rattle.classify.proofs.laws.line.EditLaws.{Cut}
 use Rattle.classify.proofs.laws.line.ApartLaws.{apart_after}
 use Rattle.classify.proofs.laws.line.BoxLaws.{says_from_line, same_after_merge}
 use Rattle.classify.proofs.laws.line.KeptLaws.{bits_said}

@@ -3,7 +3,7 @@ use Rattle.std.proofs.lemmas.List.{get_or_default}
 use Rattle.fields.specs.numbers.Spans.{SpanSet}
 use Rattle.classify.specs.steps.Fields.{IsCutFor, HasRoomAfter, TakesIn}
 use Rattle.classify.specs.steps.Pieces.{row_bits}
-use Rattle.classify.proofs.laws.line.ListLoopLaws.{edited_more}
+use Rattle.classify.proofs.laws.line.LoopLaws.{edited_more}
 use Rattle.classify.specs.steps.Kept.{PiecesAndRoom}
 use Rattle.classify.proofs.classifier.lines.insert_prepared_lines.Goals as goal
 

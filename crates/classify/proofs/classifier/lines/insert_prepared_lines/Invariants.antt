@@ -1,7 +1,7 @@
 use Rattle.std.proofs.Common.{get_or}
 use Rattle.fields.specs.numbers.Spans.{SpanSet}
 use Rattle.classify.specs.steps.Fields.{TakesIn}
-use Rattle.classify.proofs.laws.line.ListLoopLaws.{Edited}
+use Rattle.classify.proofs.laws.line.LoopLaws.{Edited}
 use Rattle.classify.proofs.classifier.lines.insert_prepared_lines.Given as goal
 
 abbrev pub invariant-loop-k : goal.invariant-loop-k

@@ -1,5 +1,5 @@
 use Rattle.std.proofs.Common.{arith, ap, get_or}
-use Rattle.classify.proofs.laws.line.ListLoopLaws.{edited_more}
+use Rattle.classify.proofs.laws.line.LoopLaws.{edited_more}
 use Rattle.classify.specs.steps.Kept.{PiecesAndRoom}
 use Rattle.classify.proofs.classifier.lines.open_margins.Goals as goal
 

@@ -1,5 +1,5 @@
 use Rattle.classify.specs.steps.Fields.{IsOpenedUp}
-use Rattle.classify.proofs.laws.line.ListLoopLaws.{Edited}
+use Rattle.classify.proofs.laws.line.LoopLaws.{Edited}
 use Rattle.classify.proofs.classifier.lines.open_margins.Given as goal
 
 abbrev pub invariant-loop-k : goal.invariant-loop-k

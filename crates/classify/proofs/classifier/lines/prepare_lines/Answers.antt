@@ -1,13 +1,11 @@
 use Rattle.std.proofs.Common.{arith, ap, get_or, length, ◌<◌, ◌∙◌, sym, subst, List}
 use Rattle.std.proofs.lemmas.Bool.{false≢true}
 use Rattle.std.proofs.lemmas.Result.{on_ok_weaker}
-use Rattle.classify.specs.steps.Cuts.{CutsStart}
+use Rattle.classify.specs.steps.Pieces.{CutsStart, IsSplitOf}
 use Rattle.classify.specs.steps.Fields.{EachEdit, EachField, EachLine, HasCuts}
-use Rattle.classify.specs.steps.Pieces.{IsSplitOf}
-use Rattle.classify.proofs.laws.line.ShownLaws.{Cut}
+use Rattle.classify.proofs.laws.line.EditLaws.{Cut}
 use Rattle.bits.specs.MarginRows.{Room}
-use Rattle.classify.proofs.laws.classifier.RoomLaws.{same_keeps}
-use Rattle.classify.proofs.laws.classifier.ClassifierLaws.{no_set}
+use Rattle.classify.proofs.laws.classifier.ClassifierLaws.{same_keeps, no_set}
 use Rattle.classify.proofs.classifier.lines.prepare_lines.Goals as goal
 
 pub returns-clause-split : goal.returns-clause-split

@@ -1,6 +1,6 @@
 use Rattle.std.proofs.Common.{arith, ap, get_or, ◌<◌, sym, subst, length}
 use Rattle.classify.specs.steps.Fields.{HasPlace}
-use Rattle.classify.proofs.laws.line.ListLoopLaws.{edited_more}
+use Rattle.classify.proofs.laws.line.LoopLaws.{edited_more}
 use Rattle.classify.specs.steps.Kept.{PiecesAndRoom}
 use Rattle.classify.proofs.classifier.lines.remove_lines.Goals as goal
 

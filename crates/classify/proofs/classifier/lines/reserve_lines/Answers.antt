@@ -2,7 +2,7 @@ use Rattle.std.proofs.Common.{arith, ap, get_or, ◌<◌, ◌+◌, sym, subst, r
 use Rattle.std.proofs.Math.ListN.{set}
 use Rattle.std.proofs.lemmas.Bool.{false≢true}
 use Rattle.classify.specs.steps.Fields.{IsRoomier, TakesNoneBeside}
-use Rattle.classify.proofs.laws.line.ListLoopLaws.{Edited, edited_more, edited_anyway, edited_weaker}
+use Rattle.classify.proofs.laws.line.LoopLaws.{Edited, edited_more, edited_anyway, edited_weaker}
 use Rattle.classify.specs.steps.Kept.{PiecesAndRoom}
 use Rattle.classify.proofs.classifier.lines.reserve_lines.Goals as goal
 

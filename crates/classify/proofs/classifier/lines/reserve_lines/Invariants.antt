@@ -1,6 +1,6 @@
 use Rattle.std.proofs.Common.{◌<◌}
 use Rattle.classify.specs.steps.Fields.{IsRoomier, TakesNoneBeside}
-use Rattle.classify.proofs.laws.line.ListLoopLaws.{Edited}
+use Rattle.classify.proofs.laws.line.LoopLaws.{Edited}
 use Rattle.classify.proofs.classifier.lines.reserve_lines.Given as goal
 
 abbrev pub invariant-loop-k : goal.invariant-loop-k

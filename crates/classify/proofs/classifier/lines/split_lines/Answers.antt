@@ -2,11 +2,10 @@ use Rattle.std.proofs.Common.{arith, ap, length, get_or, ◌<◌, ◌+◌, ℕ, 
 use Rattle.std.proofs.lemmas.List.{get_or_default}
 use Rattle.fields.specs.numbers.Spans.{SpanSet}
 use Rattle.classify.specs.steps.Fields.{shown_line, IsKeptWithCuts, HasSameRoom}
-use Rattle.classify.specs.steps.Cuts.{CutsStart}
+use Rattle.classify.specs.steps.Pieces.{CutsStart, IsRising, IsSplitOf}
 use Rattle.std.proofs.lemmas.Bool.{false≢true}
-use Rattle.classify.specs.steps.Pieces.{IsRising, IsSplitOf}
-use Rattle.classify.proofs.laws.line.ListLoopLaws.{Edited, edited_more, edited_anyway, edited_weaker}
-use Rattle.classify.proofs.laws.line.ShownLaws.{split_same}
+use Rattle.classify.proofs.laws.line.LoopLaws.{Edited, edited_more, edited_anyway, edited_weaker}
+use Rattle.classify.proofs.laws.line.EditLaws.{split_same}
 use Rattle.std.proofs.Math.ListN.{set}
 use Rattle.classify.proofs.laws.classifier.ClassifierLaws.{no_set}
 use Rattle.classify.specs.steps.Kept.{PiecesAndRoom}

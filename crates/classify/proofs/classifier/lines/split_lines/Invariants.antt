@@ -1,9 +1,8 @@
 use Rattle.std.proofs.Common.{get_or}
 use Rattle.fields.specs.numbers.Spans.{SpanSet}
-use Rattle.classify.specs.steps.Cuts.{CutsStart}
-use Rattle.classify.specs.steps.Pieces.{IsSplitOf}
+use Rattle.classify.specs.steps.Pieces.{CutsStart, IsSplitOf}
 use Rattle.classify.specs.steps.Fields.{shown_line, IsKeptWithCuts, HasSameRoom}
-use Rattle.classify.proofs.laws.line.ListLoopLaws.{Edited}
+use Rattle.classify.proofs.laws.line.LoopLaws.{Edited}
 use Rattle.classify.proofs.classifier.lines.split_lines.Given as goal
 
 abbrev pub invariant-loop-k : goal.invariant-loop-k

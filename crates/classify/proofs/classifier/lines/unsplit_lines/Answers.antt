@@ -2,10 +2,9 @@ use Rattle.std.proofs.Common.{arith, ap, length, get_or, ◌<◌, subst, ◌≡�
 use Rattle.std.proofs.lemmas.List.{get_or_default}
 use Rattle.fields.specs.numbers.Spans.{SpanSet}
 use Rattle.classify.specs.steps.Fields.{shown_line, HasSameRoom}
-use Rattle.classify.specs.steps.Pieces.{IsRising}
+use Rattle.classify.specs.steps.Pieces.{IsRising, IsApart}
 use Rattle.classify.specs.steps.Edits.{IsMergeOf}
-use Rattle.classify.specs.steps.Cuts.{IsApart}
-use Rattle.classify.proofs.laws.line.ListLoopLaws.{edited_more}
+use Rattle.classify.proofs.laws.line.LoopLaws.{edited_more}
 use Rattle.classify.proofs.laws.classifier.ClassifierLaws.{no_set}
 use Rattle.classify.specs.steps.Kept.{PiecesAndRoom}
 use Rattle.classify.proofs.classifier.lines.unsplit_lines.Goals as goal

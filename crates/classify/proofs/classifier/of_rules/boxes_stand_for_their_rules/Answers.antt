@@ -1,5 +1,4 @@
-use Rattle.classify.proofs.laws.classifier.MadeBoxes.{each_has_a_box}
-use Rattle.classify.proofs.laws.classifier.RuleLaws.{classifier_of_boxes, matches_of_rules}
+use Rattle.classify.proofs.laws.classifier.RuleLaws.{each_has_a_box, classifier_of_boxes, matches_of_rules}
 use Rattle.classify.proofs.classifier.of_rules.boxes_stand_for_their_rules.Goals as goal
 
 pub returns-clause-each : goal.returns-clause-each

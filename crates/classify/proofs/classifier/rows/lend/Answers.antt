@@ -2,15 +2,13 @@ use Rattle.std.proofs.Common.{◌≡◌, ℕ, ◌+◌, ◌<◌, ◌∙◌, ap, a
 use Rattle.std.specs.Prelude.{bit_and, slice_index}
 use Rattle.std.proofs.lemmas.List.{length-set, take_more_set}
 use Rattle.bits.specs.declared.turned_rows.TurnedWords.{TurnedWords}
-use Rattle.classify.specs.steps.CommonPlaces.{AreRowsOf, IsRowOf}
+use Rattle.classify.specs.steps.CommonPlaces.{AreRowsOf, IsRowOf, rows_found, IsOfAll}
 use Rattle.classify.specs.steps.Edits.{row_of}
 use Rattle.classify.specs.steps.Fields.{shown_line}
-use Rattle.classify.specs.steps.Found.{rows_found}
-use Rattle.classify.specs.steps.Summaries.{IsOfAll}
 use Rattle.classify.proofs.laws.classifier.ClassifierLaws.{shown_at_place}
 use Rattle.classify.proofs.laws.search.CandidateLaws.{found_at}
 use Rattle.classify.proofs.laws.search.NextLaws.{row_lent, rows_more, rows_none, sum_more, sum_none}
-use Rattle.classify.proofs.laws.line.ShownLaws.{Cut}
+use Rattle.classify.proofs.laws.line.EditLaws.{Cut}
 use Rattle.classify.specs.steps.Kept.{PiecesAndRoom}
 use Rattle.classify.proofs.classifier.rows.lend.Goals as goal
 

@@ -1,9 +1,7 @@
 use Rattle.std.proofs.Common.{◌≡◌, ℕ, length, map, take}
 use Rattle.fields.specs.declared.numbers.field.TheConstants.{FIELDS}
-use Rattle.classify.specs.steps.CommonPlaces.{AreRowsOf}
+use Rattle.classify.specs.steps.CommonPlaces.{AreRowsOf, rows_found, IsOfAll}
 use Rattle.classify.specs.steps.Fields.{EachLine, shown_line}
-use Rattle.classify.specs.steps.Found.{rows_found}
-use Rattle.classify.specs.steps.Summaries.{IsOfAll}
 use Rattle.classify.proofs.classifier.rows.lend.Given as goal
 
 abbrev pub invariant-loop-i : goal.invariant-loop-i

@@ -1,7 +1,7 @@
 use Rattle.std.proofs.Common.{◌<◌, ◌+◌, ◌∙◌, arith, length, List, Bool, sym, subst}
 use Rattle.std.proofs.lemmas.Bool.{true≢false}
 use Rattle.fields.specs.numbers.Spans.{SpanSet}
-use Rattle.classify.specs.steps.Whole.{IsEverything}
+use Rattle.classify.specs.steps.Kept.{IsEverything}
 use Rattle.classify.proofs.laws.classifier.WholeLaws.{AreLeft, mark_goes, mark_stays, marks_left}
 use Rattle.classify.proofs.classifier.whole.unmark.Goals as goal
 use Rattle.classify.proofs.classifier.whole.unmark.Goals.{then-not-is_everything, else-not-is_everything}

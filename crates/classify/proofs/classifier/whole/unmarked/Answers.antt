@@ -1,6 +1,6 @@
 use Rattle.std.proofs.Common.{◌+◌, arith, List, ℕ, sym, subst}
 use Rattle.arrayvec.specs.ArrayVec.{ArrayVec}
-use Rattle.classify.specs.steps.Whole.{AreUnmarked}
+use Rattle.classify.specs.steps.Kept.{AreUnmarked}
 use Rattle.classify.proofs.laws.classifier.WholeLaws.{one_unmarked, mark_passed}
 use Rattle.classify.proofs.classifier.whole.unmarked.Goals as goal
 use Rattle.classify.proofs.classifier.whole.unmarked.Goals.{then-not-marks-k, else-not-marks-k}

@@ -1,4 +1,4 @@
-use Rattle.classify.specs.steps.Whole.{AreUnmarked}
+use Rattle.classify.specs.steps.Kept.{AreUnmarked}
 use Rattle.classify.proofs.classifier.whole.unmarked.Given as goal
 
 abbrev pub invariant-loop-k : goal.invariant-loop-k

@@ -1,6 +1,6 @@
 use Rattle.fields.specs.declared.numbers.spans.Interval.{Interval}
 use Rattle.std.proofs.Common.{sym, List, ℕ, ap, subst, insert, ◌∙◌}
-use Rattle.classify.specs.line.Line.{row_at}
+use Rattle.classify.specs.Line.{row_at}
 use Rattle.classify.specs.steps.Edits.{Says}
 use Rattle.classify.specs.steps.Pieces.{IsRising, Differ, row_bits}
 use Rattle.fields.specs.numbers.Spans.{has}

@@ -3,7 +3,7 @@ use Rattle.std.proofs.Common.{List, ℕ, slice_set}
 use Rattle.fields.specs.numbers.Spans.{has}
 use Rattle.classify.specs.steps.Pieces.{row_bits}
 use Rattle.classify.proofs.laws.line.BoxLaws.{written_say, written_rising, line_from_merge, sound_from_merge}
-use Rattle.classify.proofs.laws.line.RunLaws.{bits_as_long}
+use Rattle.classify.proofs.laws.line.PieceLaws.{bits_as_long}
 use Rattle.classify.proofs.laws.line.KeepApartLaws.{apart_written}
 use Rattle.classify.proofs.line.edit.replace_box.Goals as goal
 

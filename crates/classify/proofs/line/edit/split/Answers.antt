@@ -1,7 +1,7 @@
 use Rattle.std.proofs.Common.{arith, sym, subst, List}
 use Rattle.classify.specs.steps.Pieces.{IsSplitOf}
 use Rattle.classify.specs.steps.Kept.{most_start}
-use Rattle.classify.proofs.laws.line.ShownLaws.{Cut, IsIn, split_same, split_done, split_done_starts, split_not_there, split_there}
+use Rattle.classify.proofs.laws.line.EditLaws.{Cut, IsIn, split_same, split_done, split_done_starts, split_not_there, split_there}
 use Rattle.classify.proofs.line.edit.split.Goals as goal
 
 pub returns-in_err-split_at-clause-split : goal.returns-in_err-split_at-clause-split

@@ -2,13 +2,12 @@ use Rattle.fields.specs.declared.numbers.spans.Interval.{Interval}
 use Rattle.std.proofs.Common.{◌≡◌, ◌+◌, ◌-◌, ◌<◌, ◌≤◌, ◌∙◌, ℕ, List, ap, arith, refl, subst, sym, length, get_or, true}
 use Rattle.std.proofs.lemmas.Bool.{false≢true}
 use Rattle.fields.specs.numbers.Spans.{has, AreSpansFrom}
-use Rattle.classify.specs.steps.Cuts.{CutsStart, ChangesAt}
-use Rattle.classify.specs.steps.Pieces.{IsRising, IsSplitOf, StartsAt}
+use Rattle.classify.specs.steps.Pieces.{CutsStart, ChangesAt, IsRising, IsSplitOf, StartsAt}
 use Rattle.classify.proofs.laws.line.ApartLaws.{both_change}
-use Rattle.classify.proofs.laws.line.GapLaws.{GapSplit, ends_all, gaps_done, gaps_init, gaps_next}
+use Rattle.classify.proofs.laws.line.CutLaws.{GapSplit, ends_all, gaps_done, gaps_init, gaps_next}
 use Rattle.classify.proofs.laws.line.LoopLaws.{split_twice, spans_within}
 use Rattle.classify.proofs.laws.line.PutLaws.{begins_with_0, gap_some}
-use Rattle.classify.proofs.laws.line.ShownLaws.{Cut, split_same}
+use Rattle.classify.proofs.laws.line.EditLaws.{Cut, split_same}
 use Rattle.classify.proofs.line.edit.split_gaps.Invariants.{no_span}
 use Rattle.classify.proofs.line.edit.split_gaps.Goals.{After-split_pair, After-top}
 use Rattle.classify.proofs.line.edit.split_gaps.Goals as goal

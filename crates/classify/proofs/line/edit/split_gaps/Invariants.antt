@@ -1,7 +1,7 @@
 use Rattle.fields.specs.declared.numbers.spans.Interval.{Interval}
 use Rattle.std.proofs.Common.{◌≡◌}
-use Rattle.classify.specs.steps.Cuts.{CutsStart}
-use Rattle.classify.proofs.laws.line.GapLaws.{GapSplit}
+use Rattle.classify.specs.steps.Pieces.{CutsStart}
+use Rattle.classify.proofs.laws.line.CutLaws.{GapSplit}
 use Rattle.classify.proofs.line.edit.split_gaps.Given as goal
 
 abbrev pub no_span : Interval

@@ -3,8 +3,7 @@ use Rattle.std.proofs.Common.{arith, sym, ◌∙◌, List, subst, ℕ, get_or}
 use Rattle.std.proofs.lemmas.Bool.{false≢true}
 use Rattle.classify.proofs.laws.line.ApartLaws.{both_change}
 use Rattle.fields.specs.numbers.Spans.{AreSpansFrom}
-use Rattle.classify.specs.steps.Cuts.{EndsStart}
-use Rattle.classify.specs.steps.Pieces.{IsSplitOf}
+use Rattle.classify.specs.steps.Pieces.{EndsStart, IsSplitOf}
 use Rattle.classify.proofs.laws.line.LoopLaws.{ends_there, split_next, split_twice, spans_within, split_done_all}
 use Rattle.classify.proofs.line.edit.split_intervals.Goals as goal
 

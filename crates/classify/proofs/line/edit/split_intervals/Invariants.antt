@@ -1,5 +1,5 @@
 use Rattle.std.proofs.Common.{◌≡◌}
-use Rattle.classify.specs.steps.Cuts.{CutsStart}
+use Rattle.classify.specs.steps.Pieces.{CutsStart}
 use Rattle.classify.proofs.laws.line.LoopLaws.{Split}
 use Rattle.classify.proofs.line.edit.split_intervals.Given as goal
 

@@ -2,7 +2,7 @@ use Rattle.std.proofs.Common.{arith}
 use Rattle.classify.specs.steps.Kept.{most_start}
 use Rattle.classify.proofs.laws.line.ApartLaws.{begins_at, begins_there}
 use Rattle.classify.proofs.laws.line.LoopLaws.{split_twice}
-use Rattle.classify.proofs.laws.line.TwiceLaws.{AreWithin, cut_twice_splits, cut_twice_starts, cut_twice_new}
+use Rattle.classify.proofs.laws.line.CutLaws.{AreWithin, cut_twice_splits, cut_twice_starts, cut_twice_new}
 use Rattle.classify.proofs.line.edit.split_pair.Goals.{Then-are_inside}
 use Rattle.classify.proofs.line.edit.split_pair.Goals as goal
 

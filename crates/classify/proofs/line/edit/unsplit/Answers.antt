@@ -1,7 +1,7 @@
 use Rattle.std.proofs.Common.{arith, sym, ◌∙◌}
 use Rattle.std.proofs.lemmas.Bool.{false≢true}
-use Rattle.classify.proofs.laws.line.ShownLaws.{IsIn}
-use Rattle.classify.proofs.laws.line.UnsplitLaws.{Sides, unsplit_first, unsplit_none, unsplit_kept, unsplit_gone}
+use Rattle.classify.proofs.laws.line.EditLaws.{IsIn}
+use Rattle.classify.proofs.laws.line.CutLaws.{Sides, unsplit_first, unsplit_none, unsplit_kept, unsplit_gone}
 use Rattle.classify.proofs.line.edit.unsplit.Goals as goal
 
 pub returns-then-place-eq0-clause-unsplit : goal.returns-then-place-eq0-clause-unsplit

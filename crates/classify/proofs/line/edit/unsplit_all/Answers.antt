@@ -1,7 +1,7 @@
 use Rattle.fields.specs.declared.numbers.spans.Interval.{Interval}
 use Rattle.std.proofs.Common.{◌∙◌, arith, ap, subst, List, ℕ, get_or, length}
 use Rattle.classify.specs.steps.Edits.{IsUnsplitAt, IsEndOf}
-use Rattle.classify.proofs.laws.line.UnsplitLaws.{IsEndBelow, no_span, unsplit_more, unsplit_done}
+use Rattle.classify.proofs.laws.line.CutLaws.{IsEndBelow, no_span, unsplit_more, unsplit_done}
 use Rattle.classify.proofs.line.edit.unsplit_all.Goals as goal
 
 pub loop-interval-preserved : goal.loop-interval-preserved

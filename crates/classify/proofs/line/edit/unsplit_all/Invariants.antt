@@ -1,6 +1,6 @@
 use Rattle.std.proofs.Common.{◌≡◌}
 use Rattle.classify.specs.steps.Edits.{IsUnsplitAt}
-use Rattle.classify.proofs.laws.line.UnsplitLaws.{IsEndBelow}
+use Rattle.classify.proofs.laws.line.CutLaws.{IsEndBelow}
 use Rattle.classify.proofs.line.edit.unsplit_all.Given as goal
 
 abbrev pub invariant-loop-interval : goal.invariant-loop-interval

@@ -1,5 +1,5 @@
 use Rattle.std.proofs.Common.{◌∙◌}
-use Rattle.classify.proofs.laws.line.UnsplitLaws.{ends_unsplit, end_unsplit}
+use Rattle.classify.proofs.laws.line.CutLaws.{ends_unsplit, end_unsplit}
 use Rattle.classify.proofs.line.edit.unsplit_interval.Goals as goal
 
 pub returns-then-interval-top-clause-unsplit : goal.returns-then-interval-top-clause-unsplit

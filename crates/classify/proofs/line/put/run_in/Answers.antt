@@ -1,7 +1,7 @@
 use Rattle.std.proofs.Common.{◌<◌, ◌+◌, ℕ, arith, length}
 use Rattle.std.specs.Prelude.{slice_index}
-use Rattle.classify.specs.line.Line.{starts}
-use Rattle.classify.proofs.laws.line.RunLaws.{run_found}
+use Rattle.classify.specs.Line.{starts}
+use Rattle.classify.proofs.laws.line.PieceLaws.{run_found}
 use Rattle.classify.specs.steps.Kept.{most_start}
 use Rattle.classify.proofs.line.put.run_in.Goals.{then-next-pieces-via-then-next-pieces, then-next-pieces-via-else-next-pieces+then-interval-start}
 use Rattle.classify.proofs.line.put.run_in.Goals as goal

@@ -1,7 +1,7 @@
 use Rattle.std.proofs.Common.{◌≡◌, ℕ, Bool, List, ◌+◌, true, false, not, ◌||◌, drop, sym, ap, subst, ◌∙◌, arith}
 use Rattle.dumps.specs.Own.{numbered, all_numbered, all_numbered_after, has_letter}
 use Rattle.dumps.specs.Views.{names_in}
-use Rattle.dumps.proofs.laws.PieceLaws.{piece, letters-here, go-on}
+use Rattle.dumps.proofs.laws.OwnLaws.{piece, letters-here, go-on}
 use Rattle.dumps.proofs.apart.own.have_numbers.Goals.{then-is_separator+else-has_letter_numbered, else-is_separator}
 use Rattle.dumps.proofs.apart.own.have_numbers.Goals as goal
 

@@ -1,7 +1,7 @@
 use Rattle.std.proofs.Common.{◌≡◌, ℕ, List, ◌+◌, ◌++◌, ◌∷◌, [], drop, sym, ap, ◌∙◌, arith, append_assoc, get_or, subst₂, Vec, Global}
 use Rattle.dumps.specs.Own.{numbered, all_numbered, all_numbered_after}
 use Rattle.dumps.specs.Views.{names_in}
-use Rattle.dumps.proofs.laws.PieceLaws.{piece, cut-here, go-on}
+use Rattle.dumps.proofs.laws.OwnLaws.{piece, cut-here, go-on}
 use Rattle.dumps.proofs.apart.own_line.all_numbered.Goals.{then-is_separator+in_ok-append_numbered+in_ok-push, else-is_separator}
 use Rattle.dumps.proofs.apart.own_line.all_numbered.Goals as goal
 

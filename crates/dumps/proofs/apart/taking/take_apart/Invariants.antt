@@ -1,8 +1,7 @@
 use Rattle.std.proofs.Common.{◌≡◌, ◌++◌, [], length}
 use Rattle.std.specs.Prelude.{flat_map}
 use Rattle.fields.specs.text.WordSlice.{words_in}
-use Rattle.dumps.specs.Parts.{part_words}
-use Rattle.dumps.specs.Apart.{AreParts}
+use Rattle.dumps.specs.Parts.{part_words, AreParts}
 use Rattle.dumps.specs.Views.{table_in, parts_of}
 use Rattle.dumps.proofs.apart.taking.take_apart.Given as goal
 

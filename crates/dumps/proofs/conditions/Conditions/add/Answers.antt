@@ -5,7 +5,7 @@ use Rattle.std.proofs.Math.Seq.{take-append_seam}
 use Rattle.std.proofs.lemmas.List.{map_push, length-map}
 use Rattle.dumps.specs.Foreign.{kept_names}
 use Rattle.dumps.specs.Numbers.{Asked, Numbers, has, added, identity_at}
-use Rattle.dumps.specs.NumberViews.{kept_in, all_in, identity_in, key_cmp, IsIndex}
+use Rattle.dumps.specs.Views.{kept_in, all_in, identity_in, key_cmp, IsIndex}
 use Rattle.dumps.specs.declared.conditions.Kept.{Kept}
 use Rattle.dumps.proofs.laws.NumberLaws.{index_pushed, index_same, added_last, at-end}
 use Rattle.dumps.proofs.conditions.Conditions.add.Goals as goal

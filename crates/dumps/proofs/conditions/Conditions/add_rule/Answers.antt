@@ -1,7 +1,7 @@
 use Rattle.std.proofs.Common.{◌≡◌, ◌+◌, ◌++◌, ◌∷◌, [], List, ℕ, true, sym, ap, subst, ◌∙◌, length, vec_len, rules}
 use Rattle.std.specs.Global.{Vec}
 use Rattle.dumps.specs.Foreign.{rule_in, is_in, needs_in}
-use Rattle.dumps.specs.NumberViews.{AreCounts, AreNeedsNumbered, AreNumberedSoFar, needs_within, numbers_of}
+use Rattle.dumps.specs.Views.{AreCounts, AreNeedsNumbered, AreNumberedSoFar, needs_within, numbers_of}
 use Rattle.dumps.specs.declared.reading.foreign.NeededText.{NeededText}
 use Rattle.dumps.specs.declared.conditions.ForeignNeed.{ForeignNeed}
 use Rattle.dumps.proofs.laws.NumberLaws.{so_far_more}

@@ -1,7 +1,6 @@
 use Rattle.std.proofs.Common.{◌≡◌, subst, ◌∙◌, false, Some, MatchOption}
 use Rattle.dumps.specs.Numbers.{has, identity_at, Numbers}
-use Rattle.dumps.specs.NumberViews.{identity_in}
-use Rattle.dumps.specs.NumberViews.{all_in}
+use Rattle.dumps.specs.Views.{identity_in, all_in}
 use Rattle.dumps.proofs.laws.NumberLaws.{index_found}
 use Rattle.dumps.proofs.conditions.Conditions.find.Goals as goal
 

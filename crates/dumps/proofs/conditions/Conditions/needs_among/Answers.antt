@@ -2,7 +2,7 @@ use Rattle.std.proofs.Common.{List, [], map, take, sym, subst, arith}
 use Rattle.std.specs.Global.{Vec}
 use Rattle.std.proofs.lemmas.Grind.{common_steps}
 use Rattle.dumps.specs.Foreign.{ReadRule, rule_in}
-use Rattle.dumps.specs.NumberViews.{AreNumberedSoFar}
+use Rattle.dumps.specs.Views.{AreNumberedSoFar}
 use Rattle.dumps.specs.declared.conditions.ForeignNeed.{ForeignNeed}
 use Rattle.dumps.proofs.laws.NumberLaws.{so_far_none, done-more, all_inversions_step}
 use Rattle.dumps.proofs.conditions.Conditions.needs_among.Goals as goal

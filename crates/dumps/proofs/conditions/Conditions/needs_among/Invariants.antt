@@ -1,7 +1,6 @@
 use Rattle.std.proofs.Common.{◌≡◌, ◌++◌, take, drop, map}
 use Rattle.dumps.specs.Foreign.{rule_in, inversions_of}
-use Rattle.dumps.specs.NeedViews.{all_inversions_in}
-use Rattle.dumps.specs.NumberViews.{AreNumberedSoFar}
+use Rattle.dumps.specs.Views.{all_inversions_in, AreNumberedSoFar}
 use Rattle.dumps.proofs.conditions.Conditions.needs_among.Given as goal
 
 -- the rules so far have numbers

@@ -4,7 +4,7 @@ use Rattle.std.proofs.lemmas.Grind.{common_steps}
 use Rattle.dumps.specs.Foreign.{needs_in}
 use Rattle.dumps.specs.declared.conditions.ForeignNeed.{ForeignNeed}
 use Rattle.dumps.specs.Numbers.{count_of}
-use Rattle.dumps.specs.NumberViews.{AreNeedsNumbered, numbers_of}
+use Rattle.dumps.specs.Views.{AreNeedsNumbered, numbers_of}
 use Rattle.dumps.proofs.laws.NumberLaws.{needs_none, needs_step, counts_sets, counts_step, inversions_step}
 use Rattle.dumps.proofs.conditions.Conditions.needs_of_rule.Goals as goal
 

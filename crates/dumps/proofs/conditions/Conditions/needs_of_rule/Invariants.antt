@@ -1,7 +1,6 @@
 use Rattle.std.proofs.Common.{◌≡◌, ◌++◌, List, take, drop}
 use Rattle.dumps.specs.Foreign.{Needed, needs_in, inversions}
-use Rattle.dumps.specs.NeedViews.{inversions_in}
-use Rattle.dumps.specs.NumberViews.{AreCounts, AreNeedsNumbered, numbers_of}
+use Rattle.dumps.specs.Views.{inversions_in, AreCounts, AreNeedsNumbered, numbers_of}
 use Rattle.dumps.proofs.conditions.Conditions.needs_of_rule.Given as goal
 
 -- the needs so far have numbers and are counted

@@ -1,5 +1,5 @@
 use Rattle.std.proofs.Common.{sym, ap, subst}
-use Rattle.dumps.specs.NumberViews.{all_in, IsIndex}
+use Rattle.dumps.specs.Views.{all_in, IsIndex}
 use Rattle.dumps.proofs.laws.NumberLaws.{index_empty}
 use Rattle.dumps.proofs.conditions.Conditions.new.Goals as goal
 

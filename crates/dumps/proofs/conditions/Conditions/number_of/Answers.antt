@@ -1,6 +1,6 @@
 use Rattle.std.proofs.Common.{ap, ◌∙◌, Some}
 use Rattle.dumps.specs.Numbers.{Identity}
-use Rattle.dumps.specs.NumberViews.{asked_with}
+use Rattle.dumps.specs.Views.{asked_with}
 use Rattle.dumps.proofs.laws.NumberLaws.{added_there}
 use Rattle.dumps.proofs.conditions.Conditions.number_of.Goals as goal
 

@@ -6,7 +6,7 @@ use Rattle.std.specs.Str.{bytes_eq}
 use Rattle.dumps.specs.TableLines.{kind_word}
 use Rattle.dumps.specs.declared.options.row.Kind.{Kind}
 use Rattle.dumps.specs.declared.options.table_line.TheConstants.{KINDS}
-use Rattle.dumps.proofs.laws.WordLaws.{no_kind, none_more}
+use Rattle.dumps.proofs.laws.TableLineLaws.{no_kind, none_more}
 use Rattle.dumps.proofs.options.table_line.kind_by.Goals as goal
 
 pub loop-kind-preserved : goal.loop-kind-preserved

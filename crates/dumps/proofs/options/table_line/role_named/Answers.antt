@@ -6,7 +6,7 @@ use Rattle.std.specs.Str.{bytes_eq}
 use Rattle.dumps.specs.TableLines.{role_word}
 use Rattle.dumps.specs.declared.options.row.Role.{Role}
 use Rattle.dumps.specs.declared.options.table_line.TheConstants.{ROLES}
-use Rattle.dumps.proofs.laws.WordLaws.{no_role, none_more}
+use Rattle.dumps.proofs.laws.TableLineLaws.{no_role, none_more}
 use Rattle.dumps.proofs.options.table_line.role_named.Goals as goal
 
 pub loop-role-preserved : goal.loop-role-preserved

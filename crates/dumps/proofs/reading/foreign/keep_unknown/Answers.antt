@@ -3,7 +3,7 @@ use Rattle.std.proofs.lemmas.Fn.{filter_same}
 use Rattle.dumps.specs.Foreign.{needed_in, needs_in, is_unknown}
 use Rattle.dumps.specs.Views.{all_known_in}
 use Rattle.dumps.specs.declared.reading.foreign.NeededText.{NeededText}
-use Rattle.dumps.proofs.laws.NeedLaws.{unknown_kept}
+use Rattle.dumps.proofs.laws.ConditionLaws.{unknown_kept}
 use Rattle.dumps.proofs.reading.foreign.keep_unknown.Goals as goal
 
 pub returns : goal.returns

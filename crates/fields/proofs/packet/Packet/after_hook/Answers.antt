@@ -1,6 +1,6 @@
 use Rattle.std.proofs.Common.{◌∙◌, ap, drop}
-use Rattle.fields.specs.packet.Packet.{checked}
-use Rattle.fields.proofs.laws.packet.GivenLaws.{given_fit, checked_same}
+use Rattle.fields.specs.Packet.{checked}
+use Rattle.fields.proofs.laws.PacketLaws.{given_fit, checked_same}
 use Rattle.fields.proofs.packet.Packet.after_hook.Goals as goal
 
 pub of_given-requires : goal.of_given-requires

@@ -1,4 +1,4 @@
-use Rattle.fields.proofs.laws.packet.PacketLaws.{values_fit}
+use Rattle.fields.proofs.laws.PacketLaws.{values_fit}
 use Rattle.fields.proofs.packet.Packet.of_given.Goals as goal
 
 pub invariant_of-result : goal.invariant_of-result

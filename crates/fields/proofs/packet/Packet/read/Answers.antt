@@ -1,5 +1,5 @@
 use Rattle.std.proofs.Common.{sym, ◌∙◌, arith}
-use Rattle.fields.proofs.laws.packet.PacketLaws.{packet_of_unknown, packet_of_hook}
+use Rattle.fields.proofs.laws.PacketLaws.{packet_of_unknown, packet_of_hook}
 use Rattle.fields.proofs.packet.Packet.read.Goals as goal
 
 pub returns-in-None-clause-value : goal.returns-in-None-clause-value

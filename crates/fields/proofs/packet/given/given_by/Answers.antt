@@ -1,9 +1,9 @@
 use Rattle.std.proofs.Common.{◌+◌, ◌<◌, ◌∙◌, length, take, drop, sym, subst, ap, arith}
 use Rattle.std.specs.Option.{option_or}
 use Rattle.std.proofs.lemmas.Result.{err_from_is_err_and}
-use Rattle.fields.specs.packet.Packet.{leftmost_fault}
+use Rattle.fields.specs.Packet.{leftmost_fault}
 use Rattle.fields.specs.steps.GivenNumbers.{IsGiven}
-use Rattle.fields.proofs.laws.packet.GivenLaws.{fault_first, given_first}
+use Rattle.fields.proofs.laws.PacketLaws.{fault_first, given_first}
 use Rattle.fields.proofs.packet.given.given_by.Goals as goal
 
 pub returns-in_err-take_word-clause-fault : goal.returns-in_err-take_word-clause-fault

@@ -1,5 +1,5 @@
 use Rattle.std.proofs.Common.{◌≡◌, take, drop, []}
-use Rattle.fields.specs.packet.Packet.{leftmost_fault}
+use Rattle.fields.specs.Packet.{leftmost_fault}
 use Rattle.fields.specs.steps.GivenNumbers.{IsGiven}
 use Rattle.fields.proofs.packet.given.given_by.Given as goal
 

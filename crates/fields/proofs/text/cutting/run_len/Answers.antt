@@ -1,7 +1,7 @@
 use Rattle.std.proofs.Common.{◌≡◌, ℕ, true, take, List, All, subst, arith}
 use Rattle.std.proofs.lemmas.List.{take_rest}
 use Rattle.fields.specs.text.Words.{is_bare}
-use Rattle.fields.proofs.laws.text.RunLaws.{run_more, run_joined}
+use Rattle.fields.proofs.laws.text.CuttingLaws.{run_more, run_joined}
 use Rattle.fields.proofs.text.cutting.run_len.Goals as goal
 
 pub returns-then-run-lt16-clause-run : goal.returns-then-run-lt16-clause-run

@@ -4,7 +4,7 @@ use Rattle.std.proofs.lemmas.List.Elements.{All-nil}
 use Rattle.std.specs.Io.BufRead.{FillKeeps}
 use Rattle.std.specs.Io.KnownBytes.{Consumes}
 use Rattle.std.proofs.BufReadLemmas.{Consumes_shown}
-use Rattle.fields.proofs.laws.text.PartLaws.{shows_nothing, holds_nothing, through}
+use Rattle.fields.proofs.laws.text.LineLaws.{shows_nothing, holds_nothing, through}
 use Rattle.fields.proofs.text.line.take_part.Goals as goal
 
 pub returns-then-is_empty-clause-takes : goal.returns-then-is_empty-clause-takes

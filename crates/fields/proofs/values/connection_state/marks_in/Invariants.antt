@@ -1,5 +1,5 @@
 use Rattle.std.proofs.Common.{◌≡◌, drop}
-use Rattle.fields.specs.steps.PacketStateTable.{marks_in}
+use Rattle.fields.specs.steps.Tables.{marks_in}
 use Rattle.fields.proofs.values.connection_state.marks_in.Given as goal
 
 -- the answer is among the rows that are left

@@ -1,6 +1,6 @@
 use Rattle.std.proofs.Common.{◌≡◌, drop}
 use Rattle.fields.specs.values.NameList.{number_named}
-use Rattle.fields.specs.steps.PacketStateTable.{named_numbers}
+use Rattle.fields.specs.steps.Tables.{named_numbers}
 use Rattle.fields.proofs.values.connection_state.number_in.Given as goal
 
 -- the answer is among the rows that are left

@@ -1,6 +1,6 @@
 use Rattle.std.proofs.Common.{◌≡◌, drop}
 use Rattle.fields.specs.values.NameList.{row_named}
-use Rattle.fields.specs.steps.NamedFlags.{rows_of}
+use Rattle.fields.specs.steps.Tables.{rows_of}
 use Rattle.fields.proofs.values.name_list.name_in_table.Given as goal
 
 -- the answer is among the flags that are left

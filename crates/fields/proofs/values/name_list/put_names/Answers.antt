@@ -4,8 +4,7 @@ use Rattle.bitflags.specs.declared.traits.Flag.{Flag}
 use Rattle.std.proofs.lemmas.List.{take_all}
 use Rattle.fields.specs.values.NameList.{names_listed}
 use Rattle.fields.specs.text.Tap.{Wrote, Stopped}
-use Rattle.fields.proofs.laws.text.PutLaws.{puts-stopped}
-use Rattle.fields.proofs.laws.values.JoinLaws.{names-kept, comma_after-more, wrote-name, stopped-name}
+use Rattle.fields.proofs.laws.text.PutLaws.{puts-stopped, names-kept, comma_after-more, wrote-name, stopped-name}
 use Rattle.fields.proofs.values.name_list.put_names.Goals as goal
 use Rattle.fields.proofs.values.name_list.put_names.Goals.{then-contains+in_ok-put_all, else-contains}
 

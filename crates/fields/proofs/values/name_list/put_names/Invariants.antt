@@ -1,9 +1,9 @@
 use Rattle.std.proofs.Common.{◌≡◌, take}
 use Rattle.std.specs.List.{join_with_byte}
 use Rattle.fields.specs.values.NameList.{names_in}
-use Rattle.fields.specs.steps.NamedFlags.{rows_of}
+use Rattle.fields.specs.steps.Tables.{rows_of}
 use Rattle.fields.specs.text.Tap.{Wrote}
-use Rattle.fields.proofs.laws.values.JoinLaws.{comma_after}
+use Rattle.fields.proofs.laws.text.PutLaws.{comma_after}
 use Rattle.fields.proofs.values.name_list.put_names.Given as goal
 
 -- the names so far are written, and a comma stands before the next unless it is the first

@@ -1,7 +1,7 @@
 use Rattle.std.proofs.Common.{◌≡◌, ◌∙◌, List, ℕ, Some, true, rules}
 use Rattle.std.specs.Prelude.{option_map}
 use Rattle.fields.specs.values.NameList.{row_named}
-use Rattle.fields.specs.steps.NamedFlags.{all_have_names}
+use Rattle.fields.specs.steps.Tables.{all_have_names}
 use Rattle.fields.proofs.laws.values.NameListLaws.{number_named-table}
 use Rattle.fields.proofs.values.name_list.set_named.Goals as goal
 

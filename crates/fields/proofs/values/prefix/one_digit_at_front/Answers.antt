@@ -1,6 +1,6 @@
 use Rattle.std.proofs.Common.{arith, rules}
 use Rattle.std.proofs.lemmas.List.{take_rest}
-use Rattle.fields.proofs.laws.values.OctetLaws.{one_octet}
+use Rattle.fields.proofs.laws.values.PrefixLaws.{one_octet}
 use Rattle.fields.proofs.values.prefix.one_digit_at_front.Goals as goal
 
 pub returns-clause-value : goal.returns-clause-value

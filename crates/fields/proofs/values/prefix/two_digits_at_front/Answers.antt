@@ -1,6 +1,6 @@
 use Rattle.std.proofs.Common.{◌≡◌, ◌==◌, false, get_or, ne_eqb, arith, rules}
 use Rattle.std.proofs.lemmas.List.{take_rest}
-use Rattle.fields.proofs.laws.values.OctetLaws.{two_octet}
+use Rattle.fields.proofs.laws.values.PrefixLaws.{two_octet}
 use Rattle.fields.proofs.values.prefix.two_digits_at_front.Goals as goal
 
 pub returns-clause-value : goal.returns-clause-value

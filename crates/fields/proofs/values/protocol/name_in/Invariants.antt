@@ -1,6 +1,6 @@
 use Rattle.std.proofs.Common.{◌≡◌, drop}
 use Rattle.fields.specs.values.Protocol.{name_in}
-use Rattle.fields.specs.steps.ProtocolTable.{entries_of}
+use Rattle.fields.specs.steps.Tables.{entries_of}
 use Rattle.fields.proofs.values.protocol.name_in.Given as goal
 
 -- the answer is among the entries that are left

@@ -1,7 +1,7 @@
 use Rattle.std.proofs.Common.{ap, ◌∙◌}
 use Rattle.clap.proofs.WalkLemmas.{first_value-rows}
 use Rattle.clap.specs.Words.{found_of}
-use Rattle.programs.specs.line.Line.{is_true}
+use Rattle.programs.specs.Line.{is_true}
 use Rattle.programs.proofs.line.program.is_set.Goals as goal
 
 pub returns-in-Some : goal.returns-in-Some

@@ -1,6 +1,6 @@
 use Rattle.std.proofs.Common.{Bor, map}
 use Rattle.clap.specs.Words.{Text, app_of, fault_of}
-use Rattle.programs.proofs.laws.LineFaults.{stands_for_refusal}
+use Rattle.programs.proofs.CommandLine.{stands_for_refusal}
 use Rattle.programs.proofs.line.program.parse.Goals as goal
 
 pub returns-in-Err-clause-refused : goal.returns-in-Err-clause-refused

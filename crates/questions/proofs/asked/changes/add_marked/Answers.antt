@@ -4,7 +4,7 @@ use Rattle.std.proofs.lemmas.List.Elements.{Contains-append_left}
 use Rattle.table.specs.chains.Table.{chain_at}
 use Rattle.table.specs.declared.walk.trail.Step.{Step}
 use Rattle.questions.specs.steps.Shared.{IsMarkedRule}
-use Rattle.questions.proofs.laws.CollectLaws.{all_below, below_pass, below_take, none_below, only_take, rule_last}
+use Rattle.questions.proofs.laws.BoxesLaws.{all_below, below_pass, below_take, none_below, only_take, rule_last}
 use Rattle.questions.proofs.asked.changes.add_marked.Goals as goal
 use Rattle.questions.proofs.asked.changes.add_marked.Goals.{then-is_marked+in_ok-push, else-is_marked}
 

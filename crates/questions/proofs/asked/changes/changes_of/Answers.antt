@@ -2,7 +2,7 @@ use Rattle.std.proofs.lemmas.Result.{IfOk-weaker}
 use Rattle.questions.specs.Scopes.{all_of}
 use Rattle.questions.specs.asked.Changes.{AreChanges, AreChangesUnder}
 use Rattle.questions.specs.declared.asked.changes.Changes.{Changes}
-use Rattle.questions.proofs.laws.PlainCompareLaws.{changes_plain, subject_of, unpaired_plain}
+use Rattle.questions.proofs.laws.CompareLaws.{changes_plain, subject_of, unpaired_plain}
 use Rattle.questions.proofs.asked.changes.changes_of.Goals as goal
 
 pub returns-clause-changes : goal.returns-clause-changes

@@ -2,9 +2,8 @@ use Rattle.questions.specs.Scopes.{table_of, whole_of}
 use Rattle.questions.specs.declared.asked.changes.Changes.{Changes}
 use Rattle.questions.specs.declared.asked.pairs.Side.TheVariants as side
 use Rattle.questions.specs.steps.Shared.{unshared}
-use Rattle.questions.proofs.laws.AlignLaws.{unpaired_of}
+use Rattle.questions.proofs.laws.SharedLaws.{unpaired_of, all_placed, pairs_under, share_left}
 use Rattle.questions.proofs.laws.CompareLaws.{changes_left}
-use Rattle.questions.proofs.laws.SharedLaws.{all_placed, pairs_under, share_left}
 use Rattle.questions.proofs.asked.changes.changes_under.Goals as goal
 
 pub unshared_of-requires : goal.unshared_of-requires

@@ -1,10 +1,10 @@
 use Rattle.std.proofs.Common.{◌≡◌, ℕ, Bool, List, ◌∙◌, ap, arith}
 use Rattle.table.specs.declared.walk.trail.Step.{Step}
 use Rattle.questions.specs.Leaves.{name_at}
-use Rattle.questions.specs.steps.Collected.{AddsRules}
+use Rattle.questions.specs.steps.Candidates.{AddsRules}
 use Rattle.questions.specs.asked.Changes.{IsThis}
 use Rattle.questions.specs.steps.Shared.{marks_on, pair_named, unshared}
-use Rattle.questions.proofs.laws.CollectLaws.{all_next, before_next}
+use Rattle.questions.proofs.laws.BoxesLaws.{all_next, before_next}
 use Rattle.questions.proofs.laws.SharedLaws.{unshared_in}
 use Rattle.questions.proofs.asked.changes.unshared_of.Goals as goal
 

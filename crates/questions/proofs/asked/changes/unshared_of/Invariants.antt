@@ -1,6 +1,6 @@
 use Rattle.questions.specs.asked.Changes.{IsThis}
 use Rattle.questions.specs.steps.Shared.{unshared}
-use Rattle.questions.proofs.laws.CollectLaws.{AreAll, AreBefore}
+use Rattle.questions.proofs.laws.BoxesLaws.{AreAll, AreBefore}
 use Rattle.questions.proofs.asked.changes.unshared_of.Given as goal
 
 abbrev pub invariant-loop-place : goal.invariant-loop-place

@@ -4,7 +4,7 @@ use Rattle.questions.specs.Scopes.{all_of}
 use Rattle.questions.specs.asked.Differing.{IsUnclearIf, MayDiffer, MayDifferSomewhere}
 use Rattle.questions.specs.asked.Verdicts.{IsSameAt, Says}
 use Rattle.questions.specs.declared.asked.likeness.Likeness.{Likeness}
-use Rattle.questions.proofs.laws.PlainCompareLaws.{plain_says, plain_unclear, subject_of}
+use Rattle.questions.proofs.laws.CompareLaws.{plain_says, plain_unclear, subject_of}
 use Rattle.questions.proofs.asked.compare.compare.Goals as goal
 
 pub returns-clause-says : goal.returns-clause-says

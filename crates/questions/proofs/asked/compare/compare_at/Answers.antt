@@ -4,7 +4,7 @@ use Rattle.questions.specs.Scopes.{all_of}
 use Rattle.questions.specs.asked.Differing.{IsUnclearIf, MayDiffer}
 use Rattle.questions.specs.asked.Verdicts.{SaysAt}
 use Rattle.questions.specs.declared.asked.likeness.Likeness.{Likeness}
-use Rattle.questions.proofs.laws.PlainCompareLaws.{plain_says_at, plain_unclear_at, subject_of}
+use Rattle.questions.proofs.laws.CompareLaws.{plain_says_at, plain_unclear_at, subject_of}
 use Rattle.questions.proofs.asked.compare.compare_at.Goals as goal
 
 pub returns-clause-says : goal.returns-clause-says

@@ -2,11 +2,11 @@ use Rattle.std.proofs.Common.{◌⊎◌, get_or, refl, arith, sym, ◌∙◌, in
 use Rattle.std.proofs.lemmas.Bool.{true≢false}
 use Rattle.fields.specs.declared.packet.hook.Hook.{Hook}
 use Rattle.fields.specs.declared.packet.hook.Hook.TheVariants.{Input}
-use Rattle.fields.specs.packet.Hook.{all_hooks}
+use Rattle.fields.specs.Hook.{all_hooks}
 use Rattle.questions.specs.Scopes.{whole_of}
 use Rattle.questions.specs.asked.Alike.{IsAlwaysSameAt}
 use Rattle.questions.specs.asked.Differing.{MayDiffer}
-use Rattle.questions.proofs.laws.VerdictLaws.{each_hook, hooks_next}
+use Rattle.questions.proofs.laws.CompareLaws.{each_hook, hooks_next}
 use Rattle.questions.proofs.asked.compare.compare_under.Goals as goal
 use Rattle.questions.proofs.asked.compare.compare_under.Goals.{in-Same, in-Unclear}
 

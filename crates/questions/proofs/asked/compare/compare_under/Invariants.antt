@@ -1,6 +1,6 @@
 use Rattle.std.proofs.Common.{◌≡◌, ◌⊎◌, ℕ, ◌<◌, true, false, get_or}
 use Rattle.fields.specs.declared.packet.hook.Hook.{Hook}
-use Rattle.fields.specs.packet.Hook.{all_hooks}
+use Rattle.fields.specs.Hook.{all_hooks}
 use Rattle.questions.specs.Scopes.{whole_of}
 use Rattle.questions.specs.asked.Alike.{IsAlwaysSameAt}
 use Rattle.questions.specs.asked.Differing.{MayDiffer}

@@ -9,7 +9,7 @@ use Rattle.questions.specs.declared.walking.task.Leaf.{Leaf}
 use Rattle.questions.specs.steps.Exact.{IsExactUnder, IsShare}
 use Rattle.questions.specs.steps.Transports.{AreByTransport, IsWithTransport, all_transports}
 use Rattle.questions.proofs.laws.ExactLaws.{exact_part, part_has, part_none, shared_all, shared_begins, shared_nobody, shared_one}
-use Rattle.questions.proofs.laws.GroupLaws.{any_left}
+use Rattle.questions.proofs.laws.ReachLaws.{any_left}
 use Rattle.questions.proofs.asked.exact.add_parts.Goals as goal
 use Rattle.questions.proofs.asked.exact.add_parts.Goals.{in-None, in-Some+in_ok-push-in-Some}
 

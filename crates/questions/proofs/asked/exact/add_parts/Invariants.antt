@@ -1,6 +1,6 @@
 use Rattle.std.proofs.Common.{All}
 use Rattle.fields.specs.declared.packet.hook.Hook.{Hook}
-use Rattle.fields.specs.packet.Packet.{PacketView as Packet}
+use Rattle.fields.specs.Packet.{PacketView as Packet}
 use Rattle.table.specs.chains.Table.{Table}
 use Rattle.questions.specs.Scopes.{Known}
 use Rattle.questions.specs.declared.walking.scope.Scope.{Scope}

@@ -1,6 +1,6 @@
 use Rattle.std.proofs.Common.{ℕ, List, sym, arith}
 use Rattle.fields.specs.numbers.Spans.{SpanSet}
-use Rattle.questions.specs.boxes.Area.{Has}
+use Rattle.questions.specs.boxes.Boxes.{Has}
 use Rattle.questions.proofs.laws.TrailLaws.{items_next}
 use Rattle.questions.proofs.asked.exact.has_some.Goals as goal
 

@@ -1,5 +1,4 @@
-use Rattle.questions.proofs.laws.DeleteLaws.{deletions_leave}
-use Rattle.questions.proofs.laws.StayLaws.{dead_can_go_renumbered, dead_can_go_under}
+use Rattle.questions.proofs.laws.DeleteLaws.{deletions_leave, dead_can_go_renumbered, dead_can_go_under}
 use Rattle.questions.proofs.laws.WithoutLaws.{dead_can_go}
 use Rattle.questions.proofs.asked.laws.dead_rules_can_go.Goals as goal
 

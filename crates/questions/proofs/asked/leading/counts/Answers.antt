@@ -1,7 +1,7 @@
 use Rattle.std.proofs.Common.{inl, inr, refl}
 use Rattle.std.proofs.lemmas.Bool.{cases_Bool}
 use Rattle.questions.specs.Ends.{rule_at}
-use Rattle.questions.proofs.laws.CountLaws.{not_share, share_of}
+use Rattle.questions.proofs.laws.PartLaws.{not_share, share_of}
 use Rattle.questions.proofs.asked.leading.counts.Goals as goal
 
 pub returns-in-None : goal.returns-in-None

@@ -3,8 +3,7 @@ use Rattle.std.specs.Option.{option_map}
 use Rattle.std.proofs.lemmas.List.{get_or-set_same, length-set}
 use Rattle.questions.specs.Ends.{rule_at}
 use Rattle.questions.specs.Leaves.{name_at}
-use Rattle.questions.proofs.laws.HookLaws.{first_spread, none_marked}
-use Rattle.questions.proofs.laws.LeadLaws.{first_leads}
+use Rattle.questions.proofs.laws.LeadLaws.{first_spread, none_marked, first_leads}
 use Rattle.questions.proofs.asked.leading.spread_from.Goals as goal
 
 pub returns-then-is_first : goal.returns-then-is_first

@@ -5,7 +5,7 @@ use Rattle.questions.specs.asked.Alike.{IsGivenBy, IsSameIf}
 use Rattle.questions.specs.asked.Differing.{IsUnclearIf}
 use Rattle.questions.specs.declared.asked.likeness.Likeness.{Likeness}
 use Rattle.questions.specs.steps.Compared.{AreWalked, MayDifferIn}
-use Rattle.questions.proofs.laws.AlikeLaws.{given_in, other_in}
+use Rattle.questions.proofs.laws.CompareLaws.{given_in, other_in}
 use Rattle.questions.proofs.laws.DifferLaws.{walked_from}
 use Rattle.questions.proofs.asked.likeness.likeness_in.Goals as goal
 

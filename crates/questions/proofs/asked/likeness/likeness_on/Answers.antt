@@ -6,7 +6,7 @@ use Rattle.questions.specs.asked.Differing.{IsUnclearIf, MayDifferOn}
 use Rattle.questions.specs.declared.asked.likeness.Likeness.{Likeness}
 use Rattle.questions.specs.declared.foreign.subject.Subject.{Subject}
 use Rattle.questions.specs.steps.Compared.{MayDifferAmong}
-use Rattle.questions.proofs.laws.AlikeLaws.{given_all, said_as, same_on, unclear_as}
+use Rattle.questions.proofs.laws.CompareLaws.{given_all, said_as, same_on, unclear_as}
 use Rattle.questions.proofs.laws.DifferLaws.{may_on}
 use Rattle.questions.proofs.asked.likeness.likeness_on.Goals as goal
 

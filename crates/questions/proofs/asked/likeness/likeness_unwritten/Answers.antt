@@ -1,6 +1,6 @@
 use Rattle.std.proofs.Common.{inr}
 use Rattle.questions.specs.Scopes.{whole_of}
-use Rattle.questions.proofs.laws.AlikeLaws.{given_in}
+use Rattle.questions.proofs.laws.CompareLaws.{given_in}
 use Rattle.questions.proofs.laws.DifferLaws.{other_there, written_given}
 use Rattle.questions.proofs.asked.likeness.likeness_unwritten.Goals as goal
 

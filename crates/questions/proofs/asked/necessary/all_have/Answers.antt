@@ -1,8 +1,8 @@
 use Rattle.std.proofs.Common.{arith, sym, ◌∙◌}
 use Rattle.std.proofs.lemmas.Bool.{true≢false}
-use Rattle.questions.specs.boxes.Area.{IsIn}
+use Rattle.questions.specs.boxes.Boxes.{IsIn}
 use Rattle.questions.specs.declared.walking.task.Leaf.{Leaf}
-use Rattle.questions.specs.steps.Meant.{IsSurelyOn, needs_of}
+use Rattle.questions.specs.steps.Takers.{IsSurelyOn, needs_of}
 use Rattle.questions.proofs.laws.TrailLaws.{items_next}
 use Rattle.questions.proofs.asked.necessary.all_have.Goals as goal
 use Rattle.questions.proofs.asked.necessary.all_have.Goals.{else-has-via-then-has+else-not-is_surely_on, else-has-via-else-has}

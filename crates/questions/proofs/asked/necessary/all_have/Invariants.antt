@@ -1,7 +1,7 @@
 use Rattle.std.proofs.Common.{ℕ, ◌<◌, get_or}
-use Rattle.questions.specs.boxes.Area.{IsIn}
+use Rattle.questions.specs.boxes.Boxes.{IsIn}
 use Rattle.questions.specs.declared.walking.task.Leaf.{Leaf}
-use Rattle.questions.specs.steps.Meant.{IsSurelyOn, needs_of}
+use Rattle.questions.specs.steps.Takers.{IsSurelyOn, needs_of}
 use Rattle.questions.proofs.asked.necessary.all_have.Given as goal
 
 abbrev pub invariant-loop-leaf : goal.invariant-loop-leaf

@@ -2,13 +2,12 @@ use Rattle.std.proofs.Common.{◌≡◌, ◌<◌, inl, inr, ℕ, zero, suc, Bool
 use Rattle.rules.specs.rule.Rules.{Rule}
 use Rattle.table.specs.chains.Table.{chain_at}
 use Rattle.questions.specs.Scopes.{answered, table_of, whole_of}
-use Rattle.questions.specs.asked.Aligned.{passed_by}
+use Rattle.questions.specs.asked.Changes.{passed_by}
 use Rattle.questions.specs.declared.asked.pairs.Pair.{Pair}
 use Rattle.questions.specs.declared.asked.pairs.Places.{Places}
 use Rattle.questions.specs.steps.Shared.{HaveNext, unmarked}
-use Rattle.questions.proofs.laws.AlignLaws.{fewer_left, marks_next, none_marked}
+use Rattle.questions.proofs.laws.SharedLaws.{fewer_left, marks_next, none_marked, adds_place, next_shared, same_left, shared_next}
 use Rattle.questions.proofs.laws.ResolvedLaws.{count_left}
-use Rattle.questions.proofs.laws.SharedLaws.{adds_place, next_shared, same_left, shared_next}
 use Rattle.questions.proofs.asked.pairs.pair_of.Goals as goal
 use Rattle.questions.proofs.asked.pairs.pair_of.Goals.{else-loop-pair-test, then-loop-pair-test+else-len-count}
 

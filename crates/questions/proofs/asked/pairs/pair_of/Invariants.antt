@@ -1,7 +1,7 @@
 use Rattle.std.proofs.Common.{ℕ, ◌+◌, ◌-◌, length}
 use Rattle.questions.specs.Foreign.{Assignment}
 use Rattle.questions.specs.Scopes.{answered, whole_of}
-use Rattle.questions.specs.asked.Aligned.{AreMarks}
+use Rattle.questions.specs.asked.Changes.{AreMarks}
 use Rattle.questions.specs.steps.Shared.{IsBeside}
 use Rattle.questions.proofs.asked.pairs.pair_of.Given as goal
 

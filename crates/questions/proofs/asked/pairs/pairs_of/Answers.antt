@@ -6,7 +6,7 @@ use Rattle.table.proofs.laws.chains.PlaceLaws.{IsPlaced, placed_at, placed_nowhe
 use Rattle.questions.specs.Foreign.{Assignment}
 use Rattle.questions.specs.Leaves.{name_at}
 use Rattle.questions.specs.Scopes.{answered, table_of, whole_of}
-use Rattle.questions.specs.asked.Aligned.{IsPairOf}
+use Rattle.questions.specs.asked.Changes.{IsPairOf}
 use Rattle.questions.specs.declared.asked.pairs.Pair.{Pair}
 use Rattle.questions.specs.declared.asked.pairs.Places.{Places}
 use Rattle.questions.specs.steps.Shared.{AreThere, IsPaired}

@@ -4,7 +4,7 @@ use Rattle.table.specs.chains.Table.{has_chain}
 use Rattle.questions.specs.Foreign.{Assignment}
 use Rattle.questions.specs.Leaves.{name_at}
 use Rattle.questions.specs.Scopes.{answered, table_of, whole_of}
-use Rattle.questions.specs.asked.Aligned.{IsPairOf}
+use Rattle.questions.specs.asked.Changes.{IsPairOf}
 use Rattle.questions.specs.declared.asked.pairs.Pair.{Pair}
 use Rattle.questions.specs.steps.Shared.{IsPaired}
 use Rattle.questions.proofs.laws.SharedLaws.{IsAmong}

@@ -1,4 +1,4 @@
-use Rattle.questions.proofs.laws.GroupLaws.{listed_now}
+use Rattle.questions.proofs.laws.ReachLaws.{listed_now}
 use Rattle.questions.proofs.asked.reached.add_end.Goals as goal
 
 pub returns : goal.returns

@@ -1,5 +1,5 @@
 use Rattle.std.proofs.Common.{arith}
-use Rattle.questions.proofs.laws.GroupLaws.{listed_next, one_has}
+use Rattle.questions.proofs.laws.ReachLaws.{listed_next, one_has}
 use Rattle.questions.proofs.asked.reached.grouped.Goals as goal
 
 pub loop-leaf-preserved : goal.loop-leaf-preserved

@@ -1,5 +1,5 @@
 use Rattle.std.proofs.Common.{arith}
-use Rattle.questions.proofs.laws.GroupLaws.{numbers_next}
+use Rattle.questions.proofs.laws.ReachLaws.{numbers_next}
 use Rattle.questions.proofs.asked.reached.numbers_of.Goals as goal
 
 pub loop-leaf-preserved : goal.loop-leaf-preserved

@@ -4,9 +4,9 @@ use Rattle.std.proofs.lemmas.List.{get_or_default}
 use Rattle.fields.specs.declared.numbers.field.Field.{Field}
 use Rattle.fields.specs.declared.numbers.field.Field.TheVariants as field
 use Rattle.fields.specs.numbers.Field.{all_fields, index}
-use Rattle.rules.proofs.laws.boxing.BoxLaws.{here_is, index-lt}
+use Rattle.rules.proofs.laws.BoxLaws.{here_is, index-lt}
 use Rattle.questions.proofs.laws.AreaLaws.{first_number}
-use Rattle.questions.proofs.laws.PossibleLaws.{HasNumberOn, number_of_set}
+use Rattle.questions.proofs.laws.PacketLaws.{HasNumberOn, number_of_set}
 use Rattle.questions.proofs.asked.reason.bare_field.Goals as goal
 
 pub loop-field-preserved : goal.loop-field-preserved

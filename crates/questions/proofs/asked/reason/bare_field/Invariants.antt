@@ -1,7 +1,7 @@
 use Rattle.std.proofs.Common.{ℕ, ◌<◌, get_or}
 use Rattle.fields.specs.declared.numbers.field.Field.{Field}
 use Rattle.fields.specs.numbers.Field.{all_fields}
-use Rattle.questions.proofs.laws.PossibleLaws.{HasNumberOn}
+use Rattle.questions.proofs.laws.PacketLaws.{HasNumberOn}
 use Rattle.questions.proofs.asked.reason.bare_field.Given as goal
 
 abbrev pub invariant-loop-field : goal.invariant-loop-field

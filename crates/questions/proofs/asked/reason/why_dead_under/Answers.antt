@@ -10,7 +10,7 @@ use Rattle.questions.specs.Scopes.{table_of}
 use Rattle.questions.specs.asked.Reason.{IsReached, IsUnreached}
 use Rattle.questions.specs.steps.Leading.{AreLeading}
 use Rattle.questions.proofs.laws.LeadLaws.{hook_leads, hook_led}
-use Rattle.questions.proofs.laws.PossibleLaws.{possible_of}
+use Rattle.questions.proofs.laws.PacketLaws.{possible_of}
 use Rattle.questions.proofs.laws.TakerLaws.{dead_of, impossible_of, unreached_dead}
 use Rattle.questions.proofs.asked.reason.why_dead_under.Goals as goal
 

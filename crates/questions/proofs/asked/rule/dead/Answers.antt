@@ -5,7 +5,7 @@ use Rattle.table.specs.walk.Walk.{Entry}
 use Rattle.questions.specs.asked.Rule.{Says}
 use Rattle.questions.specs.declared.asked.rule.Life.{Life}
 use Rattle.questions.proofs.laws.PlainLaws.{plain_says, unclear_of}
-use Rattle.questions.proofs.laws.ShortLaws.{short_plain}
+use Rattle.questions.proofs.laws.WhyLaws.{short_plain}
 use Rattle.questions.proofs.asked.rule.dead.Goals as goal
 
 pub returns-clause-says : goal.returns-clause-says

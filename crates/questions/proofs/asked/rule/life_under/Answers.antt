@@ -3,7 +3,7 @@ use Rattle.std.specs.Prelude.{slice_index_or}
 use Rattle.std.proofs.lemmas.Bool.{true≢false}
 use Rattle.fields.specs.declared.packet.hook.Hook.{Hook}
 use Rattle.fields.specs.declared.packet.hook.Hook.TheVariants.{Input}
-use Rattle.fields.specs.packet.Hook.{all_hooks}
+use Rattle.fields.specs.Hook.{all_hooks}
 use Rattle.table.specs.chains.Table.{chain_at}
 use Rattle.table.specs.declared.walk.trail.Step.{Step}
 use Rattle.table.specs.steps.Kept.{hook_index}
@@ -14,9 +14,9 @@ use Rattle.questions.specs.asked.Reason.{IsLed}
 use Rattle.questions.specs.steps.Leading.{AreLeading}
 use Rattle.questions.proofs.laws.LeadLaws.{hook_led}
 use Rattle.questions.proofs.laws.ResolvedLaws.{entry_left}
-use Rattle.questions.proofs.laws.ShortLaws.{AreShortAt, never_too_long}
+use Rattle.questions.proofs.laws.WhyLaws.{AreShortAt, never_too_long}
 use Rattle.questions.proofs.laws.TakerLaws.{unled_dead}
-use Rattle.questions.proofs.laws.VerdictLaws.{each_hook, hooks_next}
+use Rattle.questions.proofs.laws.CompareLaws.{each_hook, hooks_next}
 use Rattle.questions.proofs.asked.rule.life_under.Goals as goal
 use Rattle.questions.proofs.asked.rule.life_under.Goals.{in-Dead, in-Unclear}
 

@@ -1,8 +1,8 @@
 use Rattle.std.proofs.Common.{◌≡◌, ◌⊎◌, ℕ, ◌<◌, true, false, get_or}
 use Rattle.fields.specs.declared.packet.hook.Hook.{Hook}
-use Rattle.fields.specs.packet.Hook.{all_hooks}
+use Rattle.fields.specs.Hook.{all_hooks}
 use Rattle.questions.specs.asked.Always.{IsAlwaysDeadAt, MayLive}
-use Rattle.questions.proofs.laws.ShortLaws.{AreShortAt}
+use Rattle.questions.proofs.laws.WhyLaws.{AreShortAt}
 use Rattle.questions.proofs.asked.rule.life_under.Given as goal
 
 abbrev pub invariant-loop-hook : goal.invariant-loop-hook

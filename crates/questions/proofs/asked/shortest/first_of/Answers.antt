@@ -1,5 +1,5 @@
 use Rattle.std.proofs.Common.{arith, take}
-use Rattle.questions.proofs.laws.FirstLaws.{first_consistent, next_unanswered}
+use Rattle.questions.proofs.laws.AnswerLaws.{first_consistent, next_unanswered}
 use Rattle.questions.proofs.asked.shortest.first_of.Goals as goal
 
 pub add-requires : goal.add-requires

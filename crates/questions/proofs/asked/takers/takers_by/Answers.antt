@@ -2,8 +2,8 @@ use Rattle.std.proofs.Common.{◌<◌, sym, ◌∙◌, arith, get_or}
 use Rattle.std.proofs.lemmas.Bool.{true≢false}
 use Rattle.fields.specs.declared.packet.hook.Hook.{Hook}
 use Rattle.fields.specs.declared.packet.hook.Hook.TheVariants.{Input}
-use Rattle.fields.specs.packet.Hook.{all_hooks}
-use Rattle.fields.specs.packet.Packet.{PacketView as Packet}
+use Rattle.fields.specs.Hook.{all_hooks}
+use Rattle.fields.specs.Packet.{PacketView as Packet}
 use Rattle.table.specs.chains.Table.{chain_at}
 use Rattle.questions.specs.asked.Reason.{IsLed}
 use Rattle.questions.specs.Scopes.{table_of}

@@ -1,7 +1,7 @@
 use Rattle.std.proofs.Common.{◌≡◌, ℕ, ◌<◌, get_or}
 use Rattle.std.specs.Prelude.{AllPairs}
 use Rattle.fields.specs.declared.packet.hook.Hook.{Hook}
-use Rattle.fields.specs.packet.Hook.{all_hooks}
+use Rattle.fields.specs.Hook.{all_hooks}
 use Rattle.table.specs.declared.walk.trail.Step.{Step}
 use Rattle.questions.specs.Scopes.{table_of}
 use Rattle.questions.specs.steps.Deciding.{AllTake, IsAsked, IsTakenAt}

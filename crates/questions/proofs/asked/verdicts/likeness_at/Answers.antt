@@ -5,8 +5,7 @@ use Rattle.questions.specs.Scopes.{table_of, whole_of}
 use Rattle.questions.specs.asked.Differing.{IsUnclearIf, MayDiffer, MayDifferOn}
 use Rattle.questions.specs.declared.asked.likeness.Likeness.{Likeness}
 use Rattle.questions.specs.declared.walking.scope.Scope.{Scope}
-use Rattle.questions.proofs.laws.AlikeLaws.{unclear_as}
-use Rattle.questions.proofs.laws.CompareLaws.{are_rules, came_differs, same_always, went_differs}
+use Rattle.questions.proofs.laws.CompareLaws.{unclear_as, are_rules, came_differs, same_always, went_differs}
 use Rattle.questions.proofs.asked.verdicts.likeness_at.Goals.{in-Same, in-Unclear}
 use Rattle.questions.proofs.asked.verdicts.likeness_at.Goals as goal
 

@@ -1,5 +1,5 @@
 use Rattle.std.proofs.Common.{inr}
-use Rattle.questions.proofs.laws.AlikeLaws.{settled_never, settled_on}
+use Rattle.questions.proofs.laws.CompareLaws.{settled_never, settled_on}
 use Rattle.questions.proofs.asked.verdicts.likeness_of.Goals as goal
 
 pub returns-in_default-clause-says : goal.returns-in_default-clause-says

@@ -4,8 +4,8 @@ use Rattle.std.proofs.lemmas.List.{get_or_default}
 use Rattle.fields.specs.declared.numbers.field.Field.{Field}
 use Rattle.fields.specs.declared.numbers.field.Field.TheVariants as field
 use Rattle.fields.specs.numbers.Field.{all_fields, index, number_on}
-use Rattle.fields.specs.packet.Packet.{point}
-use Rattle.rules.proofs.laws.boxing.BoxLaws.{here_is, index-lt}
+use Rattle.fields.specs.Packet.{point}
+use Rattle.rules.proofs.laws.BoxLaws.{here_is, index-lt}
 use Rattle.questions.proofs.laws.WalksLaws.{itself_within, within_itself}
 use Rattle.questions.proofs.asked.walks.box_of.Goals as goal
 

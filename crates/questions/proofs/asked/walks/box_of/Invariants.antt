@@ -1,9 +1,9 @@
 use Rattle.std.proofs.Common.{◌≡◌, ℕ, ◌<◌, List, get_or}
 use Rattle.fields.specs.declared.numbers.field.Field.{Field}
 use Rattle.fields.specs.numbers.Field.{all_fields, number_on}
-use Rattle.fields.specs.packet.Packet.{point}
-use Rattle.classify.specs.classifier.Classifier.{IsPoint}
-use Rattle.questions.specs.boxes.Area.{Has, IsIn}
+use Rattle.fields.specs.Packet.{point}
+use Rattle.classify.specs.Classifier.{IsPoint}
+use Rattle.questions.specs.boxes.Boxes.{Has, IsIn}
 use Rattle.questions.proofs.asked.walks.box_of.Given as goal
 
 abbrev pub invariant-loop-field : goal.invariant-loop-field

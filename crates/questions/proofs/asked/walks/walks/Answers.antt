@@ -2,9 +2,9 @@ use Rattle.std.proofs.Common.{rules, ◌≡◌, Bool, sym, subst, All}
 use Rattle.std.specs.Prelude.{filter}
 use Rattle.std.proofs.lemmas.Fn.{filter_same}
 use Rattle.std.proofs.lemmas.List.Elements.{All-filter}
-use Rattle.classify.specs.classifier.Classifier.{box_matches}
+use Rattle.classify.specs.Classifier.{box_matches}
 use Rattle.questions.specs.Foreign.{AreAsked}
-use Rattle.questions.specs.boxes.Area.{IsAtHook}
+use Rattle.questions.specs.boxes.Boxes.{IsAtHook}
 use Rattle.questions.specs.declared.walking.task.Leaf.{Leaf}
 use Rattle.questions.proofs.laws.PacketLaws.{written_at_hooks}
 use Rattle.questions.proofs.laws.WalksLaws.{walks_shown}

@@ -6,9 +6,8 @@ use Rattle.rules.specs.rule.Rules.{Rule, empty_rule}
 use Rattle.table.specs.chains.Table.{chain_at}
 use Rattle.table.specs.declared.walk.trail.Step.{Step}
 use Rattle.questions.specs.Ends.{rule_at}
-use Rattle.questions.specs.steps.Leading.{NamesMarked}
-use Rattle.questions.specs.steps.Ways.{IsWay}
-use Rattle.questions.proofs.laws.CollectLaws.{all_below, below_pass, below_take, none_below, only_take}
+use Rattle.questions.specs.steps.Leading.{NamesMarked, IsWay}
+use Rattle.questions.proofs.laws.BoxesLaws.{all_below, below_pass, below_take, none_below, only_take}
 use Rattle.questions.proofs.laws.WayLaws.{way_first, way_last}
 use Rattle.questions.proofs.asked.ways.add_ways.Goals as goal
 use Rattle.questions.proofs.asked.ways.add_ways.Goals.{then-names_marked+in_ok-push, else-names_marked}

@@ -1,7 +1,7 @@
 use Rattle.std.specs.Prelude.{Contains}
 use Rattle.table.specs.declared.walk.trail.Step.{Step}
-use Rattle.questions.specs.steps.Ways.{IsWay}
-use Rattle.questions.proofs.laws.CollectLaws.{AreBelow, AreOnly}
+use Rattle.questions.specs.steps.Leading.{IsWay}
+use Rattle.questions.proofs.laws.BoxesLaws.{AreBelow, AreOnly}
 use Rattle.questions.proofs.asked.ways.add_ways.Given as goal
 
 abbrev pub invariant-loop-passed : goal.invariant-loop-passed

@@ -1,9 +1,9 @@
 use Rattle.std.proofs.Common.{◌≡◌, ◌<◌, false, length, get_or, sym, ◌∙◌, arith}
 use Rattle.std.proofs.lemmas.List.{get_or_default}
 use Rattle.table.specs.declared.walk.trail.Step.{Step}
-use Rattle.questions.specs.steps.Collected.{AddsRules}
-use Rattle.questions.specs.steps.Ways.{IsWay}
-use Rattle.questions.proofs.laws.CollectLaws.{all_next, before_next, before_skip}
+use Rattle.questions.specs.steps.Candidates.{AddsRules}
+use Rattle.questions.specs.steps.Leading.{IsWay}
+use Rattle.questions.proofs.laws.BoxesLaws.{all_next, before_next, before_skip}
 use Rattle.questions.proofs.laws.WayLaws.{IsWayIn, excluded_of, none_in, open_of, ways_in}
 use Rattle.questions.proofs.asked.ways.ways_into.Goals as goal
 use Rattle.questions.proofs.asked.ways.ways_into.Goals.{then-not-index+in_ok-add_ways, else-not-index}

@@ -1,4 +1,4 @@
-use Rattle.questions.proofs.laws.CollectLaws.{AreAll, AreBefore}
+use Rattle.questions.proofs.laws.BoxesLaws.{AreAll, AreBefore}
 use Rattle.questions.proofs.laws.WayLaws.{IsWayIn}
 use Rattle.questions.proofs.asked.ways.ways_into.Given as goal
 

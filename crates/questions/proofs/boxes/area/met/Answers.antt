@@ -1,7 +1,7 @@
 use Rattle.std.proofs.Common.{◌≡◌, ℕ, ◌&&◌, sym, ◌∙◌, ap, arith}
 use Rattle.std.proofs.lemmas.Result.{IfOk-weaker}
 use Rattle.fields.specs.numbers.Spans.{SpanSet, has, in_span}
-use Rattle.questions.proofs.laws.MeetingLaws.{has_only}
+use Rattle.questions.proofs.laws.PartLaws.{has_only}
 use Rattle.questions.proofs.boxes.area.met.Goals as goal
 
 pub shared-requires : goal.shared-requires

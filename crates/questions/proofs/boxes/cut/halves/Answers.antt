@@ -3,7 +3,7 @@ use Rattle.std.proofs.lemmas.Bool.{cases_Bool, true≢false}
 use Rattle.fields.specs.numbers.Field.{number_on}
 use Rattle.fields.specs.numbers.Spans.{has}
 use Rattle.questions.proofs.laws.AreaLaws.{two_only, two_parts}
-use Rattle.questions.specs.boxes.Parts.{IsSideOf}
+use Rattle.questions.specs.boxes.Cut.{IsSideOf}
 use Rattle.questions.proofs.laws.PartLaws.{both_parts, not_other, numbers_of, numbers_with, side_of, two_disjoint, two_parts_long}
 use Rattle.questions.proofs.boxes.cut.halves.Goals as goal
 

@@ -1,7 +1,7 @@
 use Rattle.std.proofs.Common.{subst}
 use Rattle.questions.specs.boxes.Cut.{IsCutBy}
 use Rattle.questions.specs.declared.boxes.cut.Cut.{Cut}
-use Rattle.questions.proofs.laws.PartingLaws.{whole_inside}
+use Rattle.questions.proofs.laws.PartLaws.{whole_inside}
 use Rattle.questions.proofs.boxes.cut.inside_of.Goals as goal
 
 pub returns-in_ok-push-in-Parts : goal.returns-in_ok-push-in-Parts

@@ -1,7 +1,7 @@
 use Rattle.std.proofs.Common.{ℕ, ◌+◌, ◌<◌, ◌≤◌, List}
 use Rattle.fields.specs.declared.numbers.field.TheConstants.{FIELDS}
-use Rattle.classify.specs.classifier.Classifier.{IsPoint}
-use Rattle.questions.specs.boxes.Area.{Has}
+use Rattle.classify.specs.Classifier.{IsPoint}
+use Rattle.questions.specs.boxes.Boxes.{Has}
 use Rattle.questions.specs.boxes.Cut.{IsInSome}
 use Rattle.questions.specs.steps.Sides.{LeavesAt}
 use Rattle.questions.proofs.laws.PartLaws.{AreLeft}

@@ -1,7 +1,7 @@
 use Rattle.std.proofs.Common.{◌≡◌, ℕ, ◌≤◌, false, List, subst, sym, arith}
 use Rattle.fields.specs.declared.numbers.spans.Interval.{Interval}
 use Rattle.fields.specs.numbers.Spans.{AreSpansFrom, has}
-use Rattle.questions.proofs.laws.LyingLaws.{some_missing}
+use Rattle.questions.proofs.laws.PartLaws.{some_missing}
 use Rattle.questions.proofs.boxes.lying.has_span.Goals as goal
 
 pub returns-clause-some : goal.returns-clause-some

@@ -2,7 +2,7 @@ use Rattle.std.proofs.Common.{◌≡◌, true, List, sym, subst, ◌∙◌, ap, 
 use Rattle.std.proofs.lemmas.List.Folds.{Any-from_list_any}
 use Rattle.fields.specs.declared.numbers.spans.Interval.{Interval}
 use Rattle.fields.specs.numbers.Spans.{AreSpansFrom, has, in_span}
-use Rattle.questions.proofs.laws.LyingLaws.{has_interval, interval_of}
+use Rattle.questions.proofs.laws.PartLaws.{has_interval, interval_of}
 use Rattle.questions.proofs.boxes.lying.is_part.Goals as goal
 
 pub returns-clause-all : goal.returns-clause-all

@@ -1,7 +1,7 @@
 use Rattle.std.proofs.Common.{◌≡◌, ℕ, ◌≤◌, sym, ap, ◌∙◌, subst, arith}
 use Rattle.fields.specs.numbers.Field.{top}
 use Rattle.fields.specs.numbers.Spans.{SpanSet}
-use Rattle.rules.proofs.laws.boxing.BoxLaws.{top_on}
+use Rattle.rules.proofs.laws.BoxLaws.{top_on}
 use Rattle.classify.proofs.laws.classifier.ClassifierLaws.{field_at}
 use Rattle.questions.proofs.laws.AreaLaws.{at_place, from_places, set_at}
 use Rattle.questions.proofs.boxes.lying.lies_in.Goals as goal

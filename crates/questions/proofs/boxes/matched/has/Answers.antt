@@ -4,7 +4,7 @@ use Rattle.std.proofs.lemmas.List.{get_or_default}
 use Rattle.fields.specs.declared.numbers.field.Field.{Field}
 use Rattle.fields.specs.numbers.Field.{all_fields, number_on}
 use Rattle.fields.specs.numbers.Spans.{has}
-use Rattle.classify.specs.classifier.Classifier.{box_allows, box_matches}
+use Rattle.classify.specs.Classifier.{box_allows, box_matches}
 use Rattle.questions.proofs.laws.AreaLaws.{from_fields, set_at, set_has}
 use Rattle.questions.proofs.laws.ChoiceLaws.{each_field}
 use Rattle.questions.proofs.laws.TrailLaws.{items_next}

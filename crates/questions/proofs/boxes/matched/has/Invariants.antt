@@ -1,7 +1,7 @@
 use Rattle.std.proofs.Common.{◌≡◌, ℕ, ◌<◌, true, get_or}
 use Rattle.fields.specs.declared.numbers.field.Field.{Field}
 use Rattle.fields.specs.numbers.Field.{all_fields, number_on}
-use Rattle.classify.specs.classifier.Classifier.{box_allows}
+use Rattle.classify.specs.Classifier.{box_allows}
 use Rattle.questions.proofs.boxes.matched.has.Given as goal
 
 abbrev pub invariant-loop-field : goal.invariant-loop-field

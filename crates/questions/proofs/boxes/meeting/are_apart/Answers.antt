@@ -1,7 +1,7 @@
 use Rattle.std.proofs.Common.{sym, ap, ◌∙◌, arith}
 use Rattle.fields.specs.numbers.Spans.{SpanSet}
 use Rattle.questions.proofs.laws.AreaLaws.{nothing_shared, same_tops}
-use Rattle.questions.proofs.laws.MeetingLaws.{met_next, met_on_all, met_whole}
+use Rattle.questions.proofs.laws.PartLaws.{met_next, met_on_all, met_whole}
 use Rattle.questions.specs.steps.Sides.{no_set}
 use Rattle.questions.proofs.boxes.meeting.are_apart.Goals.{else-fields-place-via-else-fields-place, else-fields-place-via-then-fields-place+else-not-share}
 use Rattle.questions.proofs.boxes.meeting.are_apart.Goals as goal

@@ -1,6 +1,6 @@
-use Rattle.questions.specs.boxes.Area.{HasNumbers}
-use Rattle.questions.specs.boxes.Meeting.{AreWholeBut}
-use Rattle.questions.proofs.laws.MeetingLaws.{MetBelow}
+use Rattle.questions.specs.boxes.Boxes.{HasNumbers}
+use Rattle.questions.specs.boxes.Cut.{AreWholeBut}
+use Rattle.questions.proofs.laws.PartLaws.{MetBelow}
 use Rattle.questions.proofs.boxes.meeting.are_apart.Given as goal
 
 abbrev pub invariant-loop-place : goal.invariant-loop-place

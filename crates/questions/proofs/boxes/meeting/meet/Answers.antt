@@ -1,7 +1,7 @@
 use Rattle.std.proofs.Common.{sym, ap, ◌∙◌, arith}
 use Rattle.fields.specs.numbers.Spans.{SpanSet}
 use Rattle.questions.proofs.laws.AreaLaws.{nothing_shared, same_tops}
-use Rattle.questions.proofs.laws.MeetingLaws.{met_next, met_on_all}
+use Rattle.questions.proofs.laws.PartLaws.{met_next, met_on_all}
 use Rattle.questions.proofs.boxes.meeting.meet.Goals as goal
 
 pub share-requires : goal.share-requires

@@ -1,4 +1,4 @@
-use Rattle.questions.proofs.laws.MeetingLaws.{MetBelow}
+use Rattle.questions.proofs.laws.PartLaws.{MetBelow}
 use Rattle.questions.proofs.boxes.meeting.meet.Given as goal
 
 abbrev pub invariant-loop-place : goal.invariant-loop-place

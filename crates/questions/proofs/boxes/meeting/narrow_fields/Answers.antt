@@ -1,8 +1,8 @@
 use Rattle.std.proofs.Common.{◌≡◌, ℕ, Bool, true, false, not, get_or, refl, sym, arith, subst, ◌∙◌}
 use Rattle.std.proofs.lemmas.List.{get_or_default, length-set}
 use Rattle.fields.specs.numbers.Spans.{SpanSet}
-use Rattle.rules.proofs.laws.boxing.BoxLaws.{box_long}
-use Rattle.questions.specs.boxes.Meeting.{IsWhole}
+use Rattle.rules.proofs.laws.BoxLaws.{box_long}
+use Rattle.questions.specs.boxes.Cut.{IsWhole}
 use Rattle.questions.proofs.laws.AreaLaws.{set_next}
 use Rattle.questions.proofs.boxes.meeting.narrow_fields.Goals as goal
 

@@ -1,7 +1,7 @@
 use Rattle.std.proofs.Common.{◌≡◌, ℕ, ◌<◌, Bool, false, length, get_or}
 use Rattle.fields.specs.declared.numbers.field.TheConstants.{FIELDS}
 use Rattle.fields.specs.numbers.Spans.{SpanSet}
-use Rattle.questions.specs.boxes.Meeting.{IsWhole}
+use Rattle.questions.specs.boxes.Cut.{IsWhole}
 use Rattle.questions.proofs.boxes.meeting.narrow_fields.Given as goal
 
 abbrev pub invariant-loop-place : goal.invariant-loop-place

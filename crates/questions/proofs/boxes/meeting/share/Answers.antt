@@ -2,7 +2,7 @@ use Rattle.std.proofs.Common.{[], refl, sym, arith, List, ap, inl, inr, Bor, sub
 use Rattle.std.proofs.lemmas.Bool.{true≢false}
 use Rattle.fields.specs.declared.numbers.spans.Interval.{Interval}
 use Rattle.fields.proofs.laws.numbers.MeetLaws.{Appended, appended_none, Advanced, meeting_next, meeting_ended}
-use Rattle.questions.proofs.laws.MeetingLaws.{AreOf, common_of, of_behind}
+use Rattle.questions.proofs.laws.PartLaws.{AreOf, common_of, of_behind}
 use Rattle.questions.proofs.boxes.meeting.share.Goals as goal
 use Rattle.questions.proofs.boxes.meeting.share.Goals.{then-a-b, else-a-b}
 

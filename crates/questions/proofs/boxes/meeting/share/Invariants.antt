@@ -1,6 +1,6 @@
 use Rattle.std.proofs.Common.{◌+◌, length, []}
 use Rattle.fields.proofs.laws.numbers.MeetLaws.{Meeting}
-use Rattle.questions.proofs.laws.MeetingLaws.{AreOf}
+use Rattle.questions.proofs.laws.PartLaws.{AreOf}
 use Rattle.questions.proofs.boxes.meeting.share.Given as goal
 
 abbrev pub invariant-loop-a : goal.invariant-loop-a

@@ -1,6 +1,6 @@
 use Rattle.std.proofs.lemmas.Result.{IfOk-weaker}
 use Rattle.fields.specs.declared.numbers.field.Field.TheVariants as field
-use Rattle.questions.specs.boxes.Area.{IsNarrowed}
+use Rattle.questions.specs.boxes.Boxes.{IsNarrowed}
 use Rattle.questions.specs.steps.Transports.{IsFirstWith}
 use Rattle.questions.proofs.laws.TransportLaws.{first_of_narrowed}
 use Rattle.questions.proofs.boxes.transport.first_of.Goals as goal

@@ -1,7 +1,7 @@
 use Rattle.std.proofs.Common.{ap}
 use Rattle.std.proofs.lemmas.Result.{IfOk-weaker}
 use Rattle.fields.specs.numbers.Spans.{SpanSet, has}
-use Rattle.questions.specs.boxes.Area.{IsNarrowed}
+use Rattle.questions.specs.boxes.Boxes.{IsNarrowed}
 use Rattle.questions.specs.steps.Transports.{IsKept}
 use Rattle.questions.proofs.laws.TransportLaws.{kept_all, kept_none}
 use Rattle.questions.proofs.boxes.transport.kept.Goals as goal

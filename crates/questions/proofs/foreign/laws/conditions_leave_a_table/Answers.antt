@@ -1,6 +1,5 @@
 use Rattle.questions.proofs.laws.ForeignLaws.{left_sound}
-use Rattle.questions.proofs.laws.NeverLaws.{never_matches}
-use Rattle.questions.proofs.laws.ResolvedLaws.{chain_left, resolved_without_needs}
+use Rattle.questions.proofs.laws.ResolvedLaws.{never_matches, chain_left, resolved_without_needs}
 use Rattle.questions.proofs.foreign.laws.conditions_leave_a_table.Goals as goal
 
 pub returns-clause-sound : goal.returns-clause-sound

@@ -2,9 +2,9 @@ use Rattle.std.proofs.Common.{List, Vec, Global, sym, arith, subst}
 use Rattle.std.proofs.lemmas.List.{take_all}
 use Rattle.std.proofs.lemmas.List.Elements.{All-push}
 use Rattle.questions.specs.declared.foreign.need.Need.{Need}
-use Rattle.questions.specs.steps.Remaining.{AreAlike, AreAlikeInChain, AreFree}
+use Rattle.questions.specs.steps.Answered.{AreAlike, AreAlikeInChain, AreFree}
 use Rattle.questions.proofs.laws.RemainLaws.{one_more}
-use Rattle.questions.proofs.laws.FirstLaws.{take_next}
+use Rattle.questions.proofs.laws.AnswerLaws.{take_next}
 use Rattle.questions.proofs.foreign.left.left_in.Goals as goal
 
 pub returns-clause-alike : goal.returns-clause-alike

@@ -1,5 +1,5 @@
 use Rattle.std.proofs.Common.{take}
-use Rattle.questions.specs.steps.Remaining.{AreAlikeInChain, AreFreeInChain}
+use Rattle.questions.specs.steps.Answered.{AreAlikeInChain, AreFreeInChain}
 use Rattle.questions.proofs.foreign.left.left_in.Given as goal
 
 abbrev pub invariant-loop-needs : goal.invariant-loop-needs

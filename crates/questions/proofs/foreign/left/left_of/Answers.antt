@@ -3,7 +3,7 @@ use Rattle.std.proofs.lemmas.List.{take_all}
 use Rattle.std.proofs.lemmas.Result.{IfOk-weaker}
 use Rattle.questions.specs.Foreign.{all_hold}
 use Rattle.questions.specs.declared.foreign.need.Need.{Need}
-use Rattle.questions.specs.steps.Remaining.{AreAlike, AreFree}
+use Rattle.questions.specs.steps.Answered.{AreAlike, AreFree}
 use Rattle.questions.proofs.laws.AnswerLaws.{is_met}
 use Rattle.questions.proofs.laws.RemainLaws.{free_more, free_never, met_more, open_more, unmet_alike}
 use Rattle.questions.proofs.foreign.left.left_of.Goals as goal

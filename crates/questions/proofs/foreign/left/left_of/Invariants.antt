@@ -1,5 +1,5 @@
 use Rattle.std.proofs.Common.{take}
-use Rattle.questions.specs.steps.Remaining.{AreAlike, AreFree}
+use Rattle.questions.specs.steps.Answered.{AreAlike, AreFree}
 use Rattle.questions.proofs.foreign.left.left_of.Given as goal
 
 abbrev pub invariant-loop-need : goal.invariant-loop-need

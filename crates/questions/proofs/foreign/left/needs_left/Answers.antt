@@ -3,9 +3,9 @@ use Rattle.std.proofs.lemmas.List.{take_all}
 use Rattle.std.proofs.lemmas.List.Elements.{All-push}
 use Rattle.questions.specs.Foreign.{resolved}
 use Rattle.questions.specs.declared.foreign.need.Need.{Need}
-use Rattle.questions.specs.steps.Remaining.{AreAlikeInAll, AreAlikeInChain, AreFreeInChain}
+use Rattle.questions.specs.steps.Answered.{AreAlikeInAll, AreAlikeInChain, AreFreeInChain}
 use Rattle.questions.proofs.laws.RemainLaws.{left_alike, left_free, one_more}
-use Rattle.questions.proofs.laws.FirstLaws.{take_next}
+use Rattle.questions.proofs.laws.AnswerLaws.{take_next}
 use Rattle.questions.proofs.foreign.left.needs_left.Goals as goal
 
 pub returns-clause-same : goal.returns-clause-same

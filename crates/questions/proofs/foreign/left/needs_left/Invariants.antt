@@ -1,5 +1,5 @@
 use Rattle.std.proofs.Common.{take}
-use Rattle.questions.specs.steps.Remaining.{AreAlikeInAll, AreFreeInAll}
+use Rattle.questions.specs.steps.Answered.{AreAlikeInAll, AreFreeInAll}
 use Rattle.questions.proofs.foreign.left.needs_left.Given as goal
 
 abbrev pub invariant-loop-chain : goal.invariant-loop-chain

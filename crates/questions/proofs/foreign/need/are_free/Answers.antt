@@ -1,6 +1,6 @@
 use Rattle.std.proofs.Common.{arith, sym, subst, Vec, Global}
 use Rattle.questions.specs.declared.foreign.need.Need.{Need}
-use Rattle.questions.proofs.laws.NeedlessLaws.{IsFree}
+use Rattle.questions.proofs.laws.PlainLaws.{IsFree}
 use Rattle.questions.proofs.laws.TrailLaws.{items_next}
 use Rattle.questions.proofs.foreign.need.are_free.Goals as goal
 

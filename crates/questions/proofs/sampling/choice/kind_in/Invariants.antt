@@ -1,5 +1,5 @@
 use Rattle.std.proofs.Common.{ℕ, ◌<◌}
-use Rattle.questions.specs.steps.Chosen.{HasNoKindWith}
+use Rattle.questions.specs.steps.Sampled.{HasNoKindWith}
 use Rattle.questions.proofs.sampling.choice.kind_in.Given as goal
 
 abbrev pub invariant-loop-protocol : goal.invariant-loop-protocol

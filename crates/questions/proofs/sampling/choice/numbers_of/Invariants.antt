@@ -2,7 +2,7 @@ use Rattle.std.proofs.Common.{◌≡◌, ℕ, ◌<◌, length, get_or}
 use Rattle.fields.specs.numbers.Field.{all_fields}
 use Rattle.fields.specs.declared.numbers.field.Field.{Field}
 use Rattle.fields.specs.declared.numbers.field.TheConstants.{FIELDS}
-use Rattle.questions.specs.steps.Chosen.{IsNumberOn}
+use Rattle.questions.specs.steps.Sampled.{IsNumberOn}
 use Rattle.questions.proofs.sampling.choice.numbers_of.Given as goal
 
 abbrev pub invariant-loop-place : goal.invariant-loop-place

@@ -1,5 +1,5 @@
 use Rattle.std.proofs.Common.{◌%◌, ◌/◌, ◌+◌, ◌*◌, arith}
-use Rattle.questions.proofs.laws.LeastNameLaws.{unit-fits, least-fits, least-stays, least-raised, none-stuck, stays-behind}
+use Rattle.questions.proofs.laws.ChoiceLaws.{unit-fits, least-fits, least-stays, least-raised, none-stuck, stays-behind}
 use Rattle.questions.proofs.sampling.interface.+tail_from.Goals as goal
 
 pub pow-unit-requires : goal.pow-unit-requires

@@ -1,5 +1,5 @@
 use Rattle.std.proofs.Common.{ℕ, ◌+◌, ◌≤◌}
-use Rattle.questions.specs.steps.Chosen.{IsNameByte}
+use Rattle.questions.specs.steps.Sampled.{IsNameByte}
 use Rattle.questions.proofs.sampling.interface.byte_above.Given as goal
 
 abbrev pub invariant-loop-next : goal.invariant-loop-next

@@ -1,7 +1,6 @@
 use Rattle.std.proofs.Common.{ℕ, Option, Some, None, MatchOption}
-use Rattle.questions.specs.steps.Chosen.{HasNoneFrom, IsLeast, IsTail}
-use Rattle.questions.specs.steps.Sampled.{IsInterfaceNumber}
-use Rattle.questions.proofs.laws.LeastNameLaws.{least-number, none-number}
+use Rattle.questions.specs.steps.Sampled.{HasNoneFrom, IsLeast, IsTail, IsInterfaceNumber}
+use Rattle.questions.proofs.laws.ChoiceLaws.{least-number, none-number}
 use Rattle.questions.proofs.sampling.interface.named_from.Goals as goal
 
 as_number : (from : ℕ) (found : Option ℕ) → MatchOption found (HasNoneFrom (IsTail 15) from) (IsLeast (IsTail 15) from) → MatchOption found (HasNoneFrom IsInterfaceNumber from) (IsLeast IsInterfaceNumber from)

@@ -2,11 +2,9 @@ use Rattle.std.proofs.Common.{List, ℕ, ◌<◌, ◌++◌, ◌∷◌, ◌≡◌
 use Rattle.std.proofs.lemmas.List.{take_all}
 use Rattle.fields.specs.declared.numbers.field.Field.TheVariants.{Source}
 use Rattle.fields.specs.numbers.Field.{all_fields}
-use Rattle.fields.specs.packet.Hook.{name}
-use Rattle.questions.specs.steps.Lines.{packet_line, spaced_word, spaced_words, word_of}
-use Rattle.questions.specs.steps.Sampled.{Writes, packet_with}
-use Rattle.questions.proofs.laws.LineLaws.{line_writes}
-use Rattle.questions.proofs.laws.LineStepLaws.{spaced-no, spaced-yes}
+use Rattle.fields.specs.Hook.{name}
+use Rattle.questions.specs.steps.Sampled.{packet_line, spaced_word, spaced_words, word_of, Writes, packet_with}
+use Rattle.questions.proofs.laws.LineLaws.{line_writes, spaced-no, spaced-yes}
 use Rattle.questions.proofs.sampling.line.line_of.Goals as goal
 use Rattle.questions.proofs.sampling.line.line_of.Goals.{then-is_written+in_ok-put_word, else-is_written}
 

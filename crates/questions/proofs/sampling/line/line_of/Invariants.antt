@@ -1,7 +1,6 @@
 use Rattle.std.proofs.Common.{◌≡◌, ◌++◌, take}
-use Rattle.fields.specs.packet.Hook.{name}
-use Rattle.questions.specs.steps.Lines.{spaced_words}
-use Rattle.questions.specs.steps.Sampled.{packet_with}
+use Rattle.fields.specs.Hook.{name}
+use Rattle.questions.specs.steps.Sampled.{spaced_words, packet_with}
 use Rattle.questions.proofs.sampling.line.line_of.Given as goal
 
 -- the hook and the words of the fields so far are written

@@ -1,8 +1,8 @@
 use Rattle.std.proofs.Common.{◌≡◌, sym, ap, subst}
-use Rattle.fields.specs.packet.Packet.{PacketView as Packet}
-use Rattle.questions.specs.boxes.Area.{IsIn}
+use Rattle.fields.specs.Packet.{PacketView as Packet}
+use Rattle.questions.specs.boxes.Boxes.{IsIn}
 use Rattle.questions.specs.steps.Sampled.{HasNone, IsChosen, packet_with}
-use Rattle.questions.proofs.laws.WrittenLaws.{written_can}
+use Rattle.questions.proofs.laws.ChoiceLaws.{written_can}
 use Rattle.questions.proofs.sampling.sample.sample_of.Goals as goal
 
 pub returns-in_default : goal.returns-in_default

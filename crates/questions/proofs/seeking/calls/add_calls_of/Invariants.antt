@@ -1,7 +1,7 @@
 use Rattle.std.specs.Prelude.{All}
 use Rattle.table.specs.declared.walk.trail.Step.{Step}
 use Rattle.questions.specs.boxes.Calls.{IsCall, IsCalled}
-use Rattle.questions.proofs.laws.CallLaws.{AreCalledBelow}
+use Rattle.questions.proofs.laws.WayLaws.{AreCalledBelow}
 use Rattle.questions.proofs.seeking.calls.add_calls_of.Given as goal
 
 abbrev pub invariant-loop-passed : goal.invariant-loop-passed

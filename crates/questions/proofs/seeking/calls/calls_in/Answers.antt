@@ -1,7 +1,7 @@
 use Rattle.std.proofs.Common.{arith}
 use Rattle.std.proofs.lemmas.List.Elements.{All-nil}
 use Rattle.questions.specs.boxes.Calls.{IsCall}
-use Rattle.questions.proofs.laws.CallLaws.{all_chains_called, chains_called}
+use Rattle.questions.proofs.laws.WayLaws.{all_chains_called, chains_called}
 use Rattle.questions.proofs.seeking.calls.calls_in.Goals as goal
 
 pub loop-place-preserved : goal.loop-place-preserved

@@ -1,5 +1,5 @@
 use Rattle.std.proofs.Common.{arith}
-use Rattle.questions.specs.steps.Tries.{IsLess}
+use Rattle.questions.specs.steps.Seeking.{IsLess}
 use Rattle.questions.proofs.laws.TrailLaws.{items_next}
 use Rattle.questions.proofs.seeking.less.are_less.Goals as goal
 

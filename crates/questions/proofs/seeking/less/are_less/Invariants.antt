@@ -1,6 +1,6 @@
 use Rattle.std.proofs.Common.{ℕ, ◌<◌, get_or}
 use Rattle.questions.specs.declared.walking.scope.Scope.{Scope}
-use Rattle.questions.specs.steps.Tries.{IsLess}
+use Rattle.questions.specs.steps.Seeking.{IsLess}
 use Rattle.questions.proofs.seeking.less.are_less.Given as goal
 
 abbrev pub invariant-loop-part : goal.invariant-loop-part

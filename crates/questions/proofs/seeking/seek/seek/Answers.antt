@@ -8,11 +8,10 @@ use Rattle.questions.specs.asked.Always.{SaysAt}
 use Rattle.questions.specs.declared.asked.rule.Life.TheVariants.{Live}
 use Rattle.questions.specs.declared.seeking.way.Way.{Way}
 use Rattle.questions.specs.declared.walking.scope.Scope.{Scope}
-use Rattle.questions.specs.steps.Meant.{IsScopeAt}
-use Rattle.questions.specs.steps.Seeking.{AllWant}
-use Rattle.questions.specs.steps.Tries.{AreTries, TakesPlace}
+use Rattle.questions.specs.steps.Takers.{IsScopeAt}
+use Rattle.questions.specs.steps.Seeking.{AllWant, AreTries, TakesPlace}
 use Rattle.questions.proofs.laws.SeekLaws.{first_way, have_all, last_wanted, never_meets, next_ways, none_comes}
-use Rattle.questions.proofs.laws.TryLaws.{adds_none, tries_next}
+use Rattle.questions.proofs.laws.WayLaws.{adds_none, tries_next}
 use Rattle.questions.proofs.seeking.seek.seek.Goals as goal
 use Rattle.questions.proofs.seeking.seek.seek.Goals.{else-clear-2-via-else-clear-2, else-clear-2-via-then-clear-2+else-is_empty, in-Parted, in-Unknown}
 

@@ -2,8 +2,7 @@ use Rattle.std.proofs.Common.{◌≡◌, [], ◌∷◌, true, false}
 use Rattle.questions.specs.Scopes.{whole_of}
 use Rattle.questions.specs.asked.Unclear.{IsSoughtInVain}
 use Rattle.questions.specs.declared.seeking.way.Way.{Way}
-use Rattle.questions.specs.steps.Seeking.{AllWant, AreAllWays}
-use Rattle.questions.specs.steps.Tries.{AreTries, IsFirst}
+use Rattle.questions.specs.steps.Seeking.{AllWant, AreAllWays, AreTries, IsFirst}
 use Rattle.questions.proofs.seeking.seek.seek.Given as goal
 
 abbrev pub invariant-loop-tried : goal.invariant-loop-tried

@@ -1,13 +1,12 @@
 use Rattle.std.proofs.Common.{inl, inr, Contains, subst, sym}
 use Rattle.table.specs.walk.Walk.{Entry, walk}
 use Rattle.questions.specs.Scopes.{answered, table_of, whole_of}
-use Rattle.questions.specs.steps.Seeking.{IsForOne}
-use Rattle.questions.specs.steps.Tries.{TakesPlace, IsLonger}
+use Rattle.questions.specs.steps.Seeking.{IsForOne, TakesPlace, IsLonger}
 use Rattle.questions.proofs.laws.PacketLaws.{written_at_hooks}
 use Rattle.questions.proofs.laws.ResolvedLaws.{entry_left}
 use Rattle.questions.proofs.laws.SeekLaws.{all_match}
 use Rattle.questions.proofs.laws.TakerLaws.{met_on}
-use Rattle.questions.proofs.laws.TryLaws.{adds_as, one_less}
+use Rattle.questions.proofs.laws.WayLaws.{adds_ways_as, one_less}
 use Rattle.questions.proofs.seeking.seek.try_by.Goals as goal
 
 pub is_shown-requires-clause-can : goal.is_shown-requires-clause-can
@@ -30,7 +29,7 @@ returns-then-begins_elsewhere c =
     let t = whole_of c.args.subject.now in
     let way = c.args.way.now in
     let takes = c.in_ok-add_longer-in-Comes.ensures.takes in
-    (record { kept = takes.kept; taken = λ a p at there on may. takes.taken a p at there may; wanted = takes.wanted }, adds_as (IsLonger t way) (TakesPlace t way) c.args.ways.now.items c.add_longer.new.ways.items (λ next is. inl is) c.in_ok-add_longer-in-Comes.ensures.longer)
+    (record { kept = takes.kept; taken = λ a p at there on may. takes.taken a p at there may; wanted = takes.wanted }, adds_ways_as (IsLonger t way) (TakesPlace t way) c.args.ways.now.items c.add_longer.new.ways.items (λ next is. inl is) c.in_ok-add_longer-in-Comes.ensures.longer)
 
 -- packets that are led away
 pub returns-in-Some-2 : goal.returns-in-Some-2
@@ -42,7 +41,7 @@ returns-in-Some-2 c =
     let less = rw c.in-Some-2.is at c.in_ok-scopes-in-Strays.ensures.less in
     let done = c.in_ok-add_parts-in-Strays.ensures in (
       record { kept = λ a q h. done.takes.kept s a q h; taken = λ a q at there on may. done.takes.taken s a q may (all a q at may); wanted = done.takes.wanted },
-      adds_as (IsForOne way scopes) (TakesPlace (whole_of s) way) c.args.ways.now.items c.add_parts-in-Some-2.new.ways.items (λ part is. inr (one_less way scopes less part is)) done.each,
+      adds_ways_as (IsForOne way scopes) (TakesPlace (whole_of s) way) c.args.ways.now.items c.add_parts-in-Some-2.new.ways.items (λ part is. inr (one_less way scopes less part is)) done.each,
     )
 
 -- packets that some rule of the way doesn't match
@@ -59,5 +58,5 @@ returns-in-Some c =
         taken = λ a q at there on may. done.takes.taken s a q may (all a q at may.here (all_match s c.stands.ensures.sound a q way (met_on s a q way.wanted c.args.course.hook c.stands.ensures.sound c.requires.step at there on).matched.matched may));
         wanted = done.takes.wanted;
       },
-      adds_as (IsForOne way scopes) (TakesPlace (whole_of s) way) c.args.ways.now.items c.add_parts.new.ways.items (λ part is. inr (one_less way scopes less part is)) done.each,
+      adds_ways_as (IsForOne way scopes) (TakesPlace (whole_of s) way) c.args.ways.now.items c.add_parts.new.ways.items (λ part is. inr (one_less way scopes less part is)) done.each,
     )

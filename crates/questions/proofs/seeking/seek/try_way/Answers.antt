@@ -1,7 +1,7 @@
 use Rattle.std.proofs.Common.{inl, refl}
 use Rattle.questions.specs.Scopes.{whole_of}
-use Rattle.questions.specs.steps.Tries.{TakesPlace}
-use Rattle.questions.proofs.laws.TryLaws.{adds_none}
+use Rattle.questions.specs.steps.Seeking.{TakesPlace}
+use Rattle.questions.proofs.laws.WayLaws.{adds_none}
 use Rattle.questions.proofs.seeking.seek.try_way.Goals as goal
 
 -- a way without packets

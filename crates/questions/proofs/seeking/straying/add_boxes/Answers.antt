@@ -5,7 +5,7 @@ use Rattle.fields.specs.numbers.Spans.{SpanSet}
 use Rattle.questions.specs.declared.walking.scope.Scope.{Scope}
 use Rattle.questions.specs.steps.Seeking.{IsBoxUnder, IsHere}
 use Rattle.questions.proofs.laws.SeekLaws.{boxes_next}
-use Rattle.questions.proofs.laws.TryLaws.{first_in}
+use Rattle.questions.proofs.laws.WayLaws.{first_in}
 use Rattle.questions.proofs.laws.WaitLaws.{any_kept}
 use Rattle.questions.proofs.seeking.straying.add_boxes.Goals as goal
 

@@ -1,6 +1,6 @@
 use Rattle.std.proofs.Common.{◌≡◌, ◌⊎◌, ◌++◌, List, All, vec_len}
 use Rattle.std.specs.Prelude.{Any}
-use Rattle.fields.specs.packet.Packet.{PacketView as Packet}
+use Rattle.fields.specs.Packet.{PacketView as Packet}
 use Rattle.questions.specs.Foreign.{Agrees, Assignment}
 use Rattle.questions.specs.boxes.Cut.{IsInSome}
 use Rattle.questions.specs.steps.Seeking.{IsBoxUnder, IsHere}

@@ -1,5 +1,5 @@
 use Rattle.std.proofs.Common.{◌+◌, IsTrue, arith}
-use Rattle.fields.specs.packet.Packet.{PacketView as Packet}
+use Rattle.fields.specs.Packet.{PacketView as Packet}
 use Rattle.questions.specs.Foreign.{Assignment, all_hold}
 use Rattle.questions.proofs.laws.AnswerLaws.{one_holds}
 use Rattle.questions.proofs.laws.SeekLaws.{HoldBelow, all_below, parts_none, parts_then, parts_weaker}

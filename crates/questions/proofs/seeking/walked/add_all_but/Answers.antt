@@ -1,9 +1,8 @@
 use Rattle.std.proofs.Common.{[], List, subst}
 use Rattle.questions.specs.declared.walking.scope.Scope.{Scope}
-use Rattle.questions.specs.steps.Seeking.{AddsBoxes, IsForOne}
-use Rattle.questions.specs.steps.Tries.{IsWayFor}
+use Rattle.questions.specs.steps.Seeking.{AddsBoxes, IsForOne, IsWayFor}
 use Rattle.questions.proofs.laws.SeekLaws.{point_of}
-use Rattle.questions.proofs.laws.TryLaws.{adds_as, boxes_under, but_less, met_by, one_less}
+use Rattle.questions.proofs.laws.WayLaws.{adds_ways_as, boxes_under, but_less, met_by, one_less}
 use Rattle.questions.proofs.seeking.walked.add_all_but.Goals as goal
 
 pub outside-requires-clause-met : goal.outside-requires-clause-met
@@ -30,4 +29,4 @@ returns-clause-less c =
     let only = rw (c.sets.ensures.value, c.sets-2.ensures.value) at c.in_ok-parts.ensures.only in
     let added : AddsBoxes parts way.scope.answers [] scopes = subst (λ (old : List Scope). AddsBoxes parts way.scope.answers old scopes) c.new-scopes.ensures.items c.in_ok-add_boxes.ensures in
     let less = but_less p way.scope c.args.own.now parts scopes (point_of p can) in_way in_own only (boxes_under parts way.scope.answers scopes added) in
-    adds_as (IsForOne way scopes) (IsWayFor way) c.args.ways.now.items c.add_parts.new.ways.items (one_less way scopes less) c.in_ok-add_parts.ensures.each
+    adds_ways_as (IsForOne way scopes) (IsWayFor way) c.args.ways.now.items c.add_parts.new.ways.items (one_less way scopes less) c.in_ok-add_parts.ensures.each

@@ -1,6 +1,6 @@
 use Rattle.std.proofs.Common.{sym, ◌∙◌, arith}
 use Rattle.std.proofs.lemmas.Bool.{true≢false}
-use Rattle.questions.specs.steps.Walked.{IsGone}
+use Rattle.questions.specs.steps.Tried.{IsGone}
 use Rattle.questions.proofs.laws.TrailLaws.{items_next}
 use Rattle.questions.proofs.seeking.walked.came_among.Goals as goal
 

@@ -1,6 +1,6 @@
 use Rattle.std.proofs.Common.{ℕ, ◌<◌, get_or}
 use Rattle.questions.specs.declared.walking.task.Leaf.{Leaf}
-use Rattle.questions.specs.steps.Walked.{IsGone}
+use Rattle.questions.specs.steps.Tried.{IsGone}
 use Rattle.questions.proofs.seeking.walked.came_among.Given as goal
 
 abbrev pub invariant-loop-leaf : goal.invariant-loop-leaf

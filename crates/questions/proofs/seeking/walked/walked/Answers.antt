@@ -1,11 +1,11 @@
 use Rattle.std.proofs.Common.{inr, refl}
-use Rattle.questions.specs.boxes.Area.{IsAtHook}
+use Rattle.questions.specs.boxes.Boxes.{IsAtHook}
 use Rattle.questions.specs.Scopes.{whole_of}
 use Rattle.questions.specs.declared.walking.scope.Scope.{Scope}
-use Rattle.questions.specs.steps.Tries.{TakesPlace, IsWayFor}
+use Rattle.questions.specs.steps.Seeking.{TakesPlace, IsWayFor}
 use Rattle.questions.proofs.laws.PacketLaws.{written_at_hooks}
-use Rattle.questions.proofs.laws.TryLaws.{adds_as}
-use Rattle.questions.proofs.laws.WalkedLaws.{come_live, only_of, taken_on}
+use Rattle.questions.proofs.laws.WayLaws.{adds_ways_as}
+use Rattle.questions.proofs.laws.WalksLaws.{come_live, only_of, taken_on}
 use Rattle.questions.proofs.seeking.walked.walked.Goals as goal
 
 pub returns-in_default : goal.returns-in_default
@@ -38,7 +38,7 @@ returns c =
     let can : IsAtHook p = written_at_hooks c.args.sample.words p c.requires.sample.writes in (
       taken_on s c.stands.ensures.sound way.wanted c.requires.step c.args.course.hook start c.in-Some.found.items way c.in_ok-own.own p c.args.ways.now.items c.add_all_but.new.ways.items refl c.in_ok-answers.ensures c.in_ok-area.ensures c.in_ok-own.ensures can
           (rw c.in-Some.is at c.in_ok-found.ensures.leaves) (rw (c.in_default-2.is, c.as_slice.ensures.value, c.at-needs.ensures) at c.in_ok-answers-2.ensures) c.in_ok-add_all_but.ensures.takes,
-      adds_as (IsWayFor way) (TakesPlace (whole_of s) way) c.args.ways.now.items c.add_all_but.new.ways.items (λ part is. inr is) c.in_ok-add_all_but.ensures.less,
+      adds_ways_as (IsWayFor way) (TakesPlace (whole_of s) way) c.args.ways.now.items c.add_all_but.new.ways.items (λ part is. inr is) c.in_ok-add_all_but.ensures.less,
     )
 
 pub add_all_but-requires : goal.add_all_but-requires

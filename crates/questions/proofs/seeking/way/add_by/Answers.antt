@@ -3,10 +3,10 @@ use Rattle.table.specs.declared.walk.trail.Step.{Step}
 use Rattle.questions.specs.declared.seeking.way.Way.{Way}
 use Rattle.questions.specs.Ends.{rule_at}
 use Rattle.questions.specs.Scopes.{whole_of}
-use Rattle.questions.specs.steps.Meant.{needs_of}
-use Rattle.questions.specs.steps.Tries.{IsLetOn, IsLonger}
+use Rattle.questions.specs.steps.Takers.{needs_of}
+use Rattle.questions.specs.steps.Seeking.{IsLetOn, IsLonger}
 use Rattle.questions.proofs.laws.SeekLaws.{taken_by, taken_never}
-use Rattle.questions.proofs.laws.TryLaws.{adds_none, adds_one}
+use Rattle.questions.proofs.laws.WayLaws.{adds_none, adds_one}
 use Rattle.questions.proofs.seeking.way.add_by.Goals as goal
 
 pub returns-in_default-clause-takes : goal.returns-in_default-clause-takes

@@ -3,10 +3,9 @@ use Rattle.std.proofs.lemmas.List.{get_or_default}
 use Rattle.questions.specs.declared.seeking.calls.Call.{Call}
 use Rattle.questions.specs.Scopes.{table_of, whole_of}
 use Rattle.questions.specs.boxes.Calls.{IsCall}
-use Rattle.questions.specs.steps.Seeking.{IsTakenBy, top_of}
-use Rattle.questions.specs.steps.Tries.{IsLonger}
+use Rattle.questions.specs.steps.Seeking.{IsTakenBy, top_of, IsLonger}
 use Rattle.questions.proofs.laws.SeekLaws.{AreTakenFrom, taken_next, taken_over}
-use Rattle.questions.proofs.laws.TryLaws.{adds_none, adds_on}
+use Rattle.questions.proofs.laws.WayLaws.{adds_none, adds_on}
 use Rattle.questions.proofs.seeking.way.add_longer.Goals as goal
 use Rattle.questions.proofs.seeking.way.add_longer.Goals.{then-to-chain+in_ok-add_by, else-to-chain}
 

@@ -1,9 +1,8 @@
 use Rattle.std.specs.Prelude.{Any}
-use Rattle.fields.specs.packet.Packet.{PacketView as Packet}
+use Rattle.fields.specs.Packet.{PacketView as Packet}
 use Rattle.questions.specs.Foreign.{Assignment}
-use Rattle.questions.specs.steps.Seeking.{KeepsWanted, MayCome}
+use Rattle.questions.specs.steps.Seeking.{KeepsWanted, MayCome, AddsWays, IsLonger}
 use Rattle.questions.specs.Scopes.{whole_of}
-use Rattle.questions.specs.steps.Tries.{AddsWays, IsLonger}
 use Rattle.questions.proofs.laws.SeekLaws.{AreTakenFrom}
 use Rattle.questions.proofs.seeking.way.add_longer.Given as goal
 

@@ -4,7 +4,7 @@ use Rattle.std.proofs.lemmas.List.Elements.{Contains-append_right}
 use Rattle.questions.specs.declared.walking.scope.Scope.{Scope}
 use Rattle.questions.specs.steps.Seeking.{IsForOne, MayCome}
 use Rattle.questions.proofs.laws.SeekLaws.{one_wanted, scopes_next}
-use Rattle.questions.proofs.laws.TryLaws.{adds_more, adds_none, first_in}
+use Rattle.questions.proofs.laws.WayLaws.{adds_more, adds_none, first_in}
 use Rattle.questions.proofs.laws.WaitLaws.{any_kept}
 use Rattle.questions.proofs.seeking.way.add_parts.Goals as goal
 

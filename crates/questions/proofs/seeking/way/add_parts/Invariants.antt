@@ -1,10 +1,9 @@
 use Rattle.std.proofs.Common.{◌≡◌, ◌⊎◌, ◌++◌, List, vec_len}
 use Rattle.std.specs.Prelude.{Any}
-use Rattle.fields.specs.packet.Packet.{PacketView as Packet}
+use Rattle.fields.specs.Packet.{PacketView as Packet}
 use Rattle.questions.specs.Foreign.{Assignment}
 use Rattle.questions.specs.declared.foreign.subject.Subject.{Subject}
-use Rattle.questions.specs.steps.Seeking.{IsForOne, IsHere, KeepsWanted, KeepsWays, MayCome}
-use Rattle.questions.specs.steps.Tries.{AddsWays}
+use Rattle.questions.specs.steps.Seeking.{IsForOne, IsHere, KeepsWanted, KeepsWays, MayCome, AddsWays}
 use Rattle.questions.specs.declared.walking.scope.Scope.{Scope}
 use Rattle.questions.proofs.seeking.way.add_parts.Given as goal
 

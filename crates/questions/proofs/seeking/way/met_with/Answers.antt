@@ -1,4 +1,4 @@
-use Rattle.rules.specs.boxing.Boxed.{IsBoxOf}
+use Rattle.rules.specs.Boxed.{IsBoxOf}
 use Rattle.questions.proofs.laws.SeekLaws.{met_with_some}
 use Rattle.questions.proofs.seeking.way.met_with.Goals as goal
 

@@ -6,10 +6,9 @@ use Rattle.questions.specs.Scopes.{answered, known_by, table_of}
 use Rattle.questions.specs.boxes.Cut.{IsAllowedIn}
 use Rattle.questions.specs.declared.walking.task.Pending.{Pending}
 use Rattle.questions.specs.steps.Waiting.{IsThere, rule_ahead}
-use Rattle.questions.proofs.laws.OnwardLaws.{last_same}
-use Rattle.questions.proofs.laws.AheadLaws.{advances, high_left}
+use Rattle.questions.proofs.laws.PartedLaws.{last_same}
+use Rattle.questions.proofs.laws.BranchLaws.{advances, high_left, still_apart}
 use Rattle.questions.proofs.laws.ForeignLaws.{left_sound}
-use Rattle.questions.proofs.laws.AheadLaws.{still_apart}
 use Rattle.questions.proofs.laws.ResolvedLaws.{count_left, there_left}
 use Rattle.questions.proofs.walking.ahead.advanced.Goals as goal
 

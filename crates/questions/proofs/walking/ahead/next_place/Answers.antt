@@ -3,9 +3,9 @@ use Rattle.rules.specs.rule.Rules.{Rule, empty_rule}
 use Rattle.table.specs.chains.Table.{chain_at}
 use Rattle.questions.specs.boxes.Cut.{IsAllowedIn, IsApart}
 use Rattle.questions.specs.declared.walking.task.Pending.{Pending}
-use Rattle.questions.specs.steps.Ahead.{IsApartIn}
+use Rattle.questions.specs.steps.Straying.{IsApartIn}
 use Rattle.questions.specs.steps.Waiting.{rule_ahead}
-use Rattle.questions.proofs.laws.AheadLaws.{below_next, past_next}
+use Rattle.questions.proofs.laws.BranchLaws.{below_next, past_next}
 use Rattle.questions.proofs.walking.ahead.next_place.Goals as goal
 
 pub loop-passed-init : goal.loop-passed-init

@@ -1,6 +1,6 @@
 use Rattle.std.proofs.Common.{ℕ, List, ◌-◌, ◌<◌, ◌≤◌}
 use Rattle.fields.specs.numbers.Spans.{SpanSet}
-use Rattle.questions.specs.steps.Ahead.{IsApartIn}
+use Rattle.questions.specs.steps.Straying.{IsApartIn}
 use Rattle.questions.specs.steps.Candidates.{AreFor}
 use Rattle.questions.specs.steps.Waiting.{rule_ahead}
 use Rattle.questions.proofs.walking.ahead.next_place.Given as goal

@@ -6,7 +6,7 @@ use Rattle.questions.specs.declared.walking.task.Pending.{Pending}
 use Rattle.questions.specs.declared.walking.task.Task.{Task}
 use Rattle.questions.proofs.laws.ForeignLaws.{left_sound}
 use Rattle.questions.proofs.laws.WaitLaws.{begun, task_moves}
-use Rattle.questions.proofs.laws.AskedLaws.{asked_first}
+use Rattle.questions.proofs.laws.AnswerLaws.{asked_first}
 use Rattle.questions.proofs.walking.engine.begin.Goals as goal
 
 pub returns-clause-begins : goal.returns-clause-begins

@@ -1,9 +1,8 @@
 use Rattle.questions.specs.Foreign.{Assignment}
 use Rattle.questions.specs.Scopes.{answered, known_by, table_of, whole_of}
 use Rattle.questions.specs.steps.Candidates.{AreFor}
-use Rattle.questions.specs.steps.Asking.{AllAsked}
+use Rattle.questions.specs.steps.Waiting.{AllAsked, Begins}
 use Rattle.questions.specs.steps.Taken.{GetsTo}
-use Rattle.questions.specs.steps.Waiting.{Begins}
 use Rattle.questions.proofs.walking.engine.leaves_under.Given as goal
 
 abbrev pub invariant-loop-taken : goal.invariant-loop-taken

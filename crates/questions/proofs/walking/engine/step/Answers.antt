@@ -10,9 +10,8 @@ use Rattle.questions.proofs.laws.ForeignLaws.{left_sound}
 use Rattle.questions.proofs.laws.ResolvedLaws.{all_left, count_left, there_left}
 use Rattle.questions.proofs.laws.WaitLaws.{at_rest, at_no_rest, comes_back, ended}
 use Rattle.questions.specs.declared.walking.task.Pending.{Pending}
-use Rattle.questions.specs.steps.Onward.{AddsTasks, GetsOn}
-use Rattle.questions.proofs.laws.OnwardLaws.{adds_none, back_on}
-use Rattle.questions.proofs.laws.PartedLaws.{more_parts, one_part}
+use Rattle.questions.specs.steps.Taken.{AddsTasks, GetsOn}
+use Rattle.questions.proofs.laws.PartedLaws.{adds_none, back_on, more_parts, one_part}
 use Rattle.questions.proofs.walking.engine.step.Goals as goal
 
 pub returns-then-at-rule_count-clause-moves : goal.returns-then-at-rule_count-clause-moves

@@ -5,8 +5,7 @@ use Rattle.questions.specs.Scopes.{answered, known_by, table_of, whole_of}
 use Rattle.questions.specs.steps.Waiting.{rests_of}
 use Rattle.questions.proofs.laws.BranchLaws.{passed_on}
 use Rattle.questions.proofs.laws.ResolvedLaws.{all_left, there_left}
-use Rattle.questions.proofs.laws.OnwardLaws.{put_past}
-use Rattle.questions.proofs.laws.PartedLaws.{more_parts, one_part}
+use Rattle.questions.proofs.laws.PartedLaws.{put_past, more_parts, one_part}
 use Rattle.questions.proofs.walking.turn.ask.Goals as goal
 
 pub returns-in-Passed-clause-moves : goal.returns-in-Passed-clause-moves

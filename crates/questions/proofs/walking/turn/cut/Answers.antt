@@ -7,17 +7,15 @@ use Rattle.rules.specs.rule.Rules.{Rule}
 use Rattle.table.specs.chains.Table.{chain_at}
 use Rattle.questions.specs.Foreign.{needs_at}
 use Rattle.questions.specs.Scopes.{answered, known_by, table_of, whole_of}
-use Rattle.questions.specs.steps.Branches.{CanFollow}
+use Rattle.questions.specs.steps.Straying.{CanFollow}
 use Rattle.questions.specs.steps.Waiting.{rests_of}
 use Rattle.questions.proofs.laws.BoxesLaws.{own_box}
-use Rattle.questions.proofs.laws.BranchLaws.{apart_on, followed_on, met_or_stays, parted_on, split_on}
-use Rattle.questions.proofs.laws.AheadLaws.{rule_here}
+use Rattle.questions.proofs.laws.BranchLaws.{apart_on, followed_on, met_or_stays, parted_on, split_on, rule_here}
 use Rattle.questions.proofs.laws.ResolvedLaws.{all_left, names_same, there_left}
 use Rattle.questions.specs.declared.walking.task.Pending.{Pending}
 use Rattle.questions.specs.declared.walking.task.Task.{Task}
-use Rattle.questions.specs.steps.Onward.{GetsOn}
-use Rattle.questions.proofs.laws.OnwardLaws.{adds_more, answered_on, besides_past, matched_on, parts_on, put_past}
-use Rattle.questions.proofs.laws.PartedLaws.{boxes_more, boxes_part, cut_then, more_parts, one_part}
+use Rattle.questions.specs.steps.Taken.{GetsOn}
+use Rattle.questions.proofs.laws.PartedLaws.{adds_more, answered_on, besides_past, matched_on, parts_on, put_past, boxes_more, boxes_part, cut_then, more_parts, one_part}
 use Rattle.questions.proofs.laws.PartLaws.{parted_only}
 use Rattle.questions.proofs.laws.LeadLaws.{not_gone_to}
 use Rattle.questions.proofs.walking.turn.cut.Goals as goal

@@ -4,7 +4,7 @@ use Rattle.questions.specs.Scopes.{entries_by}
 use Rattle.questions.specs.steps.Waiting.{rests_of}
 use Rattle.questions.proofs.laws.ResolvedLaws.{same_position}
 use Rattle.questions.proofs.laws.WaitLaws.{entered, not_entered}
-use Rattle.questions.proofs.laws.OnwardLaws.{put_below, put_entered}
+use Rattle.questions.proofs.laws.PartedLaws.{put_below, put_entered}
 use Rattle.questions.proofs.walking.turn.enter.Goals as goal
 
 pub returns-in-Some-clause-moves : goal.returns-in-Some-clause-moves

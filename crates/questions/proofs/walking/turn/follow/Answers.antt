@@ -1,8 +1,8 @@
-use Rattle.questions.proofs.laws.HeldLaws.{last_pushed}
+use Rattle.questions.proofs.laws.TrailLaws.{last_pushed}
 use Rattle.std.proofs.lemmas.Result.{on_ok_weaker}
 use Rattle.std.proofs.Common.{List, subst}
 use Rattle.table.specs.declared.walk.trail.Step.{Step}
-use Rattle.questions.specs.steps.Onward.{AddsTasks, IsTurned}
+use Rattle.questions.specs.steps.Taken.{AddsTasks, IsTurned}
 use Rattle.questions.proofs.walking.turn.follow.Goals as goal
 
 pub returns-clause-moves : goal.returns-clause-moves

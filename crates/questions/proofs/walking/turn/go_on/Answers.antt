@@ -3,7 +3,7 @@ use Rattle.std.proofs.lemmas.Result.{on_ok_weaker}
 use Rattle.questions.specs.Scopes.{entries_by}
 use Rattle.questions.proofs.laws.WaitLaws.{pushed_moves}
 use Rattle.questions.specs.declared.walking.task.Pending.{Pending}
-use Rattle.questions.specs.steps.Onward.{AddsTasks, IsPut}
+use Rattle.questions.specs.steps.Taken.{AddsTasks, IsPut}
 use Rattle.questions.proofs.walking.turn.go_on.Goals as goal
 
 pub returns-clause-moves : goal.returns-clause-moves

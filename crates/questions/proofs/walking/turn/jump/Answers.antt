@@ -4,7 +4,7 @@ use Rattle.table.specs.walk.Walk.{whole}
 use Rattle.questions.specs.Scopes.{entries_by}
 use Rattle.questions.proofs.laws.WaitLaws.{pushed_below}
 use Rattle.questions.specs.declared.walking.task.Pending.{Pending}
-use Rattle.questions.specs.steps.Onward.{AddsTasks, IsEntered}
+use Rattle.questions.specs.steps.Taken.{AddsTasks, IsEntered}
 use Rattle.questions.proofs.walking.turn.jump.Goals as goal
 
 pub returns-clause-moves : goal.returns-clause-moves

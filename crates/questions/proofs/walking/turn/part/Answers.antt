@@ -4,11 +4,10 @@ use Rattle.questions.specs.steps.Waiting.{stage_at}
 use Rattle.questions.proofs.laws.WaitLaws.{parts_by}
 use Rattle.questions.specs.declared.walking.scope.Scope.{Scope}
 use Rattle.questions.specs.declared.walking.task.Task.{Task}
-use Rattle.questions.specs.steps.Onward.{IsAnswered}
-use Rattle.questions.proofs.laws.OnwardLaws.{adds_more, put_answered}
-use Rattle.questions.proofs.laws.AskedLaws.{asked_more}
+use Rattle.questions.specs.steps.Taken.{IsAnswered}
+use Rattle.questions.proofs.laws.PartedLaws.{adds_more, put_answered, parted_by}
+use Rattle.questions.proofs.laws.AnswerLaws.{asked_more}
 use Rattle.questions.proofs.laws.PartLaws.{numbers_kept}
-use Rattle.questions.proofs.laws.PartedLaws.{parted_by}
 use Rattle.questions.proofs.walking.turn.part.Goals as goal
 
 pub returns-clause-moves : goal.returns-clause-moves

@@ -5,9 +5,8 @@ use Rattle.questions.specs.steps.Waiting.{stage_at}
 use Rattle.questions.proofs.laws.WaitLaws.{keeps_all, keeps_then, passed_next, some_before}
 use Rattle.fields.specs.numbers.Spans.{SpanSet}
 use Rattle.questions.specs.declared.walking.task.Task.{Task}
-use Rattle.questions.specs.steps.Onward.{IsBesides}
-use Rattle.questions.proofs.laws.OnwardLaws.{adds_more, adds_none, put_beside}
-use Rattle.questions.proofs.laws.PartedLaws.{all_added, box_added, none_added}
+use Rattle.questions.specs.steps.Taken.{IsBesides}
+use Rattle.questions.proofs.laws.PartedLaws.{adds_more, adds_none, put_beside, all_added, box_added, none_added}
 use Rattle.std.proofs.lemmas.List.{nil_from_length}
 use Rattle.std.proofs.lemmas.List.Elements.{Contains-append_left, Contains-push}
 use Rattle.questions.proofs.walking.turn.pass_over.Goals as goal

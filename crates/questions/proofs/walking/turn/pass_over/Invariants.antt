@@ -1,15 +1,14 @@
 use Rattle.std.proofs.Common.{◌⊎◌, ℕ, List, [], ◌∷◌, ◌++◌, Contains, vec_len}
-use Rattle.fields.specs.packet.Packet.{PacketView as Packet}
+use Rattle.fields.specs.Packet.{PacketView as Packet}
 use Rattle.table.specs.chains.Table.{Table}
 use Rattle.table.specs.declared.verdict.Verdict.{Verdict}
 use Rattle.questions.specs.Scopes.{Known}
 use Rattle.questions.specs.boxes.Cut.{IsInSome}
 use Rattle.questions.specs.declared.walking.scope.Scope.{Scope}
-use Rattle.questions.specs.steps.Waiting.{AreThere, Belongs, IsThere, IsAsked, IsAccounted, IsFitting, IsOfSome, Keeps, Reaches, stage_at}
+use Rattle.questions.specs.steps.Waiting.{AreThere, Belongs, IsThere, IsAsked, IsAccounted, IsFitting, IsOfSome, Keeps, Reaches, stage_at, KeepsAsked}
 use Rattle.fields.specs.numbers.Spans.{SpanSet}
 use Rattle.questions.specs.declared.foreign.need.Need.{Need}
-use Rattle.questions.specs.steps.Asking.{KeepsAsked}
-use Rattle.questions.specs.steps.Onward.{AddsTasks, IsBesides}
+use Rattle.questions.specs.steps.Taken.{AddsTasks, IsBesides}
 use Rattle.questions.proofs.laws.PartedLaws.{HasAdded}
 use Rattle.questions.proofs.walking.turn.pass_over.Given as goal
 

@@ -6,9 +6,8 @@ use Rattle.questions.specs.Scopes.{entries_by}
 use Rattle.questions.specs.steps.Waiting.{rest_of, rests_of}
 use Rattle.questions.proofs.laws.BranchLaws.{not_staying}
 use Rattle.questions.proofs.laws.WaitLaws.{turned}
-use Rattle.questions.specs.steps.Onward.{AddsTasks, IsTurned}
-use Rattle.questions.proofs.laws.OnwardLaws.{adds_none, entered_turned, put_turned}
-use Rattle.questions.proofs.laws.PartedLaws.{one_part}
+use Rattle.questions.specs.steps.Taken.{AddsTasks, IsTurned}
+use Rattle.questions.proofs.laws.PartedLaws.{adds_none, entered_turned, put_turned, one_part}
 use Rattle.questions.proofs.walking.turn.turn.Goals as goal
 
 pub returns-in-None-clause-moves : goal.returns-in-None-clause-moves

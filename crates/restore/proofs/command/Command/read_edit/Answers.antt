@@ -1,6 +1,5 @@
 use Rattle.std.proofs.Common.{length, drop}
-use Rattle.restore.proofs.laws.commands.LineLaws.{edit_is}
-use Rattle.restore.proofs.laws.commands.AnswerLaws.{along}
+use Rattle.restore.proofs.laws.commands.LineLaws.{edit_is, along}
 use Rattle.restore.proofs.command.Command.read_edit.Goals as goal
 
 pub returns : goal.returns

@@ -1,8 +1,8 @@
 use Rattle.std.proofs.Common.{length, drop, Some, None}
 use Rattle.std.proofs.lemmas.Bool.{false≢true}
 use Rattle.restore.specs.steps.Reading.{row_of}
-use Rattle.restore.proofs.laws.commands.NameFormLaws.{followed_by}
-use Rattle.restore.proofs.laws.commands.AnswerLaws.{along}
+use Rattle.restore.proofs.laws.commands.NextLaws.{followed_by}
+use Rattle.restore.proofs.laws.commands.LineLaws.{along}
 use Rattle.restore.proofs.command.line.command_named.Goals as goal
 
 pub returns-in-Some : goal.returns-in-Some

@@ -1,7 +1,7 @@
 use Rattle.std.proofs.Common.{◌∙◌, ap, drop, Err, Ok}
 use Rattle.restore.specs.commands.Command.{NoCommand}
 use Rattle.restore.specs.commands.CommandForms.{is_command}
-use Rattle.restore.proofs.laws.commands.SecondLaws.{names_command, word_seen}
+use Rattle.restore.proofs.laws.commands.NextLaws.{names_command, word_seen}
 use Rattle.restore.proofs.command.second.is_command_at.Goals as goal
 
 pub returns-in-Ok : goal.returns-in-Ok

@@ -1,8 +1,8 @@
 use Rattle.std.proofs.Common.{rules, ◌∙◌, ℕ, Bool, ap, subst, sym}
 use Rattle.std.proofs.lemmas.Bool.{false≢true}
-use Rattle.table.specs.edits.Boxes.{MakesBoxes, MakesOneBox}
-use Rattle.table.proofs.laws.edits.BoxLaws.{none_made}
-use Rattle.restore.specs.sections.Boxes.{line_puts}
+use Rattle.table.specs.edits.Edits.{MakesBoxes, MakesOneBox}
+use Rattle.table.proofs.laws.edits.EditLaws.{none_made}
+use Rattle.restore.specs.sections.Lines.{line_puts}
 use Rattle.restore.specs.sections.Restore.{Between, Skipping, Building, Restore, SectionState}
 use Rattle.restore.proofs.laws.sections.BoxLaws.{commit_puts, section_line_puts}
 use Rattle.restore.proofs.laws.sections.LineLaws.{between_err, between_ok, reached, section_commits, section_err, section_ok, skipped_line, stopped, too_long}

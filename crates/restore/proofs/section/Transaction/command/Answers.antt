@@ -1,8 +1,8 @@
 use Rattle.std.proofs.Common.{◌≡◌, ◌∙◌, Bool, drop, sym, ap, subst}
-use Rattle.table.specs.edits.Boxes.{MakesBoxes, MakesOneBox}
-use Rattle.table.proofs.laws.edits.BoxLaws.{none_made}
+use Rattle.table.specs.edits.Edits.{MakesBoxes, MakesOneBox}
+use Rattle.table.proofs.laws.edits.EditLaws.{none_made}
 use Rattle.restore.specs.commands.Command.{meaning}
-use Rattle.restore.specs.sections.Boxes.{asks_put}
+use Rattle.restore.specs.sections.Lines.{asks_put}
 use Rattle.restore.specs.sections.Section.{asked_of_command, without_counters}
 use Rattle.restore.proofs.laws.sections.BoxLaws.{command_asks, on_accepted}
 use Rattle.restore.proofs.laws.sections.CommandLaws.{after_counters, all_words, command_done}

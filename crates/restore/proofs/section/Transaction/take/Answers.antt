@@ -1,8 +1,8 @@
 use Rattle.std.proofs.Common.{◌∙◌, Bool, subst, sym}
 use Rattle.std.proofs.lemmas.Bool.{false≢true}
-use Rattle.table.specs.edits.Boxes.{MakesBoxes}
-use Rattle.table.proofs.laws.edits.BoxLaws.{none_made}
-use Rattle.restore.specs.sections.Boxes.{asks_put}
+use Rattle.table.specs.edits.Edits.{MakesBoxes}
+use Rattle.table.proofs.laws.edits.EditLaws.{none_made}
+use Rattle.restore.specs.sections.Lines.{asks_put}
 use Rattle.restore.specs.sections.Section.{asked}
 use Rattle.restore.proofs.laws.sections.BoxLaws.{quiet_asks, words_ask}
 use Rattle.restore.proofs.section.Transaction.take.Goals as goal

@@ -1,9 +1,8 @@
 use Rattle.std.proofs.Common.{arith, below_more, ◌≤◌, ℕ, subst, ◌<◌}
-use Rattle.fields.specs.numbers.Field.{index}
+use Rattle.fields.specs.numbers.Field.{index, number_on}
 use Rattle.fields.specs.declared.numbers.field.Field.TheVariants.{Source}
 use Rattle.fields.specs.declared.numbers.field.TheConstants.{FIELDS}
-use Rattle.fields.specs.numbers.Field.{number_on}
-use Rattle.rules.proofs.laws.boxing.BoxLaws.{index-lt}
+use Rattle.rules.proofs.laws.BoxLaws.{index-lt}
 use Rattle.classify.proofs.laws.classifier.ClassifierLaws.{top_at, tops_at}
 use Rattle.rule_tests.proofs.classifiers.searches.is_point.Goals as goal
 

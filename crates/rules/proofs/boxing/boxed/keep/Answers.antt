@@ -1,6 +1,5 @@
 use Rattle.std.proofs.Common.{sym, ◌∙◌}
-use Rattle.rules.proofs.laws.boxing.BoxLaws.{box_with, top_on}
-use Rattle.rules.proofs.laws.boxing.NarrowLaws.{narrows_met}
+use Rattle.rules.proofs.laws.BoxLaws.{box_with, top_on, narrows_met}
 use Rattle.rules.proofs.boxing.boxed.keep.Goals as goal
 
 pub met-requires : goal.met-requires

@@ -1,4 +1,4 @@
-use Rattle.rules.proofs.laws.boxing.MetLaws.{met_all}
+use Rattle.rules.proofs.laws.BoxLaws.{met_all}
 use Rattle.rules.proofs.boxing.boxed.met.Goals as goal
 
 pub returns-then-has_all-clause-members : goal.returns-then-has_all-clause-members

@@ -1,5 +1,5 @@
 use Rattle.rules.specs.rule.Allows.{field_of}
-use Rattle.rules.proofs.laws.boxing.NarrowLaws.{narrows_asked}
+use Rattle.rules.proofs.laws.BoxLaws.{narrows_asked}
 use Rattle.rules.proofs.boxing.boxed.narrow.Goals as goal
 
 pub returns-in-Some-clause-narrows : goal.returns-in-Some-clause-narrows

@@ -1,6 +1,6 @@
 use Rattle.std.proofs.Common.{arith}
 use Rattle.rules.specs.rule.Allows.{option_value_allows}
-use Rattle.rules.proofs.laws.boxing.NarrowLaws.{narrows_next, narrows_all}
+use Rattle.rules.proofs.laws.BoxLaws.{narrows_next, narrows_all}
 use Rattle.rules.proofs.boxing.boxed.narrow_all.Goals as goal
 
 pub loop-option_value-preserved : goal.loop-option_value-preserved

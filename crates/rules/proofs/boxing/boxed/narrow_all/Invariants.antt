@@ -1,7 +1,7 @@
 use Rattle.std.proofs.Common.{take}
 use Rattle.std.specs.List.{list_all}
 use Rattle.rules.specs.rule.Allows.{option_value_allows}
-use Rattle.rules.specs.boxing.Boxed.{IsBox}
+use Rattle.rules.specs.Boxed.{IsBox}
 use Rattle.rules.specs.steps.Conditions.{Narrows}
 use Rattle.rules.proofs.boxing.boxed.narrow_all.Given as goal
 

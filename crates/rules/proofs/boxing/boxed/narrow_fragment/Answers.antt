@@ -1,6 +1,6 @@
 use Rattle.std.proofs.Common.{◌≡◌, true, sym, ◌∙◌}
 use Rattle.rules.specs.options.Matches.{match_row}
-use Rattle.rules.proofs.laws.boxing.NarrowLaws.{narrows_fragment}
+use Rattle.rules.proofs.laws.BoxLaws.{narrows_fragment}
 use Rattle.rules.proofs.boxing.boxed.narrow_fragment.Goals as goal
 
 pub returns-clause-narrows : goal.returns-clause-narrows

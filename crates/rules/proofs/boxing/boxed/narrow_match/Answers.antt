@@ -1,4 +1,4 @@
-use Rattle.rules.proofs.laws.boxing.NarrowLaws.{narrows_match}
+use Rattle.rules.proofs.laws.BoxLaws.{narrows_match}
 use Rattle.rules.proofs.boxing.boxed.narrow_match.Goals as goal
 
 pub returns-clause-narrows : goal.returns-clause-narrows

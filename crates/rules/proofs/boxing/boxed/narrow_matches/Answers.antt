@@ -1,7 +1,7 @@
 use Rattle.std.proofs.Common.{arith}
 use Rattle.rules.specs.rule.Allows.{match_allows}
 use Rattle.rules.specs.steps.Views.{view_match}
-use Rattle.rules.proofs.laws.boxing.NarrowLaws.{narrows_next, narrows_all, narrows_viewed}
+use Rattle.rules.proofs.laws.BoxLaws.{narrows_next, narrows_all, narrows_viewed}
 use Rattle.rules.proofs.boxing.boxed.narrow_matches.Goals as goal
 
 pub loop-one-preserved : goal.loop-one-preserved

@@ -5,7 +5,7 @@ use Rattle.fields.specs.numbers.Field.{top}
 use Rattle.fields.specs.declared.numbers.field.Field.TheVariants.{Source}
 use Rattle.fields.specs.declared.numbers.field.TheConstants.{FIELDS}
 use Rattle.fields.specs.declared.numbers.field.TheConstants.Field.{ALL}
-use Rattle.rules.proofs.laws.boxing.NarrowLaws.{whole_next}
+use Rattle.rules.proofs.laws.BoxLaws.{whole_next}
 use Rattle.rules.proofs.boxing.boxed.open.Goals as goal
 
 pub loop-place-preserved : goal.loop-place-preserved

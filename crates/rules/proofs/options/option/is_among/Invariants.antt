@@ -1,7 +1,7 @@
 use Rattle.std.proofs.Common.{◌≡◌, drop}
 use Rattle.std.specs.List.{list_any}
 use Rattle.std.specs.Str.{bytes_eq}
-use Rattle.rules.specs.steps.OptionNames.{names_now}
+use Rattle.rules.specs.steps.OptionRows.{names_now}
 use Rattle.rules.proofs.options.option.is_among.Given as goal
 
 abbrev pub invariant-loop-name : goal.invariant-loop-name

@@ -1,7 +1,7 @@
 use Rattle.std.proofs.Common.{ap, ◌∙◌, arith}
 use Rattle.std.proofs.lemmas.List.{length-map}
 use Rattle.rules.specs.steps.Views.{view_match, view_matches}
-use Rattle.rules.proofs.laws.reading.NormalFormLaws.{normal_first, all_normal, normal_next}
+use Rattle.rules.proofs.laws.reading.StepLaws.{normal_first, all_normal, normal_next}
 use Rattle.rules.proofs.reading.normal_form.normalize_matches.Goals as goal
 
 pub loop-one-preserved : goal.loop-one-preserved

@@ -1,5 +1,5 @@
 use Rattle.std.proofs.Common.{◌≡◌}
-use Rattle.rules.proofs.laws.reading.NormalFormLaws.{normal_first}
+use Rattle.rules.proofs.laws.reading.StepLaws.{normal_first}
 use Rattle.rules.specs.steps.Views.{view_matches}
 use Rattle.rules.proofs.reading.normal_form.normalize_matches.Given as goal
 

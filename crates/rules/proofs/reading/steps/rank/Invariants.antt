@@ -1,5 +1,5 @@
 use Rattle.std.proofs.Common.{◌≡◌, ◌+◌, drop}
-use Rattle.rules.specs.steps.Places.{rank}
+use Rattle.rules.specs.steps.OptionRows.{rank}
 use Rattle.rules.proofs.reading.steps.rank.Given as goal
 
 abbrev pub invariant-loop-i : goal.invariant-loop-i

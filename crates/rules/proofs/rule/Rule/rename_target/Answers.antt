@@ -1,5 +1,5 @@
 use Rattle.rules.specs.rule.Crossing.{cross}
-use Rattle.rules.proofs.laws.rule.RenameLaws.{renamed_reads}
+use Rattle.rules.proofs.laws.printing.RoundTripLaws.{renamed_reads}
 use Rattle.rules.proofs.rule.Rule.rename_target.Goals as goal
 
 pub invariant_of-self : goal.invariant_of-self

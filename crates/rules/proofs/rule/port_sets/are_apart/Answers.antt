@@ -1,4 +1,4 @@
-use Rattle.rules.proofs.laws.rule.PortLaws.{first_number, shared_number}
+use Rattle.rules.proofs.laws.rule.CrossLaws.{first_number, shared_number}
 use Rattle.rules.proofs.rule.port_sets.are_apart.Goals as goal
 
 pub returns-clause-some : goal.returns-clause-some

@@ -8,8 +8,7 @@ use Rattle.rules.specs.rule.Crossing.{IsListedIn, cross, match_crosses, parted_b
 use Rattle.rules.specs.rule.Rules as viewed
 use Rattle.rules.specs.rule.Rules.{Rule}
 use Rattle.rules.specs.steps.Views.{view_match}
-use Rattle.rules.proofs.laws.rule.CrossLaws.{each_viewed}
-use Rattle.rules.proofs.laws.rule.PortLaws.{any_made, says_alike}
+use Rattle.rules.proofs.laws.rule.CrossLaws.{each_viewed, any_made, says_alike}
 use Rattle.rules.proofs.rule.port_sets.cross_ports.Goals as goal
 
 pub returns-clause-says : goal.returns-clause-says

@@ -1,6 +1,6 @@
 use Rattle.rules.specs.rule.Crossing.{IsListedIn, parted_by}
 use Rattle.rules.specs.steps.Views.{view_match}
-use Rattle.rules.proofs.laws.rule.PortLaws.{any_there}
+use Rattle.rules.proofs.laws.rule.CrossLaws.{any_there}
 use Rattle.rules.proofs.rule.port_sets.matches_say.Goals as goal
 
 pub returns-then-not-holds-clause-listed : goal.returns-then-not-holds-clause-listed

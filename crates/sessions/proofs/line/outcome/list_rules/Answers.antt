@@ -1,4 +1,4 @@
-use Rattle.restore.specs.listings.Listing.{rules_listing}
+use Rattle.restore.specs.Listing.{rules_listing}
 use Rattle.std.proofs.Common.{Some}
 use Rattle.sessions.proofs.laws.line.OutcomeLaws.{on_none, rules_comes}
 use Rattle.sessions.proofs.line.outcome.list_rules.Goals as goal

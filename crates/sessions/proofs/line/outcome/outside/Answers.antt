@@ -1,7 +1,7 @@
 use Rattle.std.proofs.Common.{◌∙◌, Bool, subst, sym}
 use Rattle.std.proofs.lemmas.Bool.{false≢true}
-use Rattle.table.specs.edits.Boxes.{MakesBoxes}
-use Rattle.table.proofs.laws.edits.BoxLaws.{none_made}
+use Rattle.table.specs.edits.Edits.{MakesBoxes}
+use Rattle.table.proofs.laws.edits.EditLaws.{none_made}
 use Rattle.sessions.specs.line.Boxes.{may_box}
 use Rattle.sessions.specs.line.Outcome.{Outside}
 use Rattle.sessions.proofs.laws.line.LineLaws.{outside_long, outside_memory, outside_quiet, outside_quoting, outside_words, read_as, read_long}

@@ -1,5 +1,5 @@
 use Rattle.table.specs.chains.Table.{rules_of}
-use Rattle.sessions.specs.reply.Lines.{lines_reply}
+use Rattle.sessions.specs.Replies.{lines_reply}
 use Rattle.sessions.proofs.laws.line.OutcomeLaws.{lines_comes, on_none}
 use Rattle.sessions.proofs.line.outcome.show.Goals as goal
 

@@ -1,6 +1,6 @@
 use Rattle.std.proofs.Common.{◌-◌, ◌/◌, ◌%◌, codes, ap}
 use Rattle.std.specs.Prelude.{slice_index}
-use Rattle.sessions.proofs.laws.reply.HexadecimalLaws.{bits_of_digits}
+use Rattle.sessions.proofs.laws.ReplyLaws.{bits_of_digits}
 use Rattle.sessions.proofs.reply.lines.digit_at.Goals as goal
 
 pub returns : goal.returns

@@ -1,6 +1,6 @@
 use Rattle.std.proofs.Common.{rules}
 use Rattle.std.proofs.lemmas.List.FromFn.{fill_by_all}
-use Rattle.sessions.specs.reply.Lines.{digit_at, hexadecimal}
+use Rattle.sessions.specs.Replies.{digit_at, hexadecimal}
 use Rattle.sessions.proofs.reply.lines.hexadecimal.Goals as goal
 
 pub returns : goal.returns

@@ -1,5 +1,5 @@
 use Rattle.std.proofs.Common.{◌≡◌, ℕ, ◌<◌, length, get_or}
-use Rattle.sessions.specs.reply.Lines.{digit_at}
+use Rattle.sessions.specs.Replies.{digit_at}
 use Rattle.sessions.proofs.reply.lines.hexadecimal.Given as goal
 
 abbrev pub invariant-loop-place : goal.invariant-loop-place

@@ -3,8 +3,8 @@ use Rattle.std.specs.Prelude.{decimal}
 use Rattle.std.proofs.lemmas.List.{append-nil}
 use Rattle.fields.specs.text.Tap.{Wrote}
 use Rattle.fields.proofs.laws.text.PutLaws.{puts-after, stops-in, wrote-then}
-use Rattle.sessions.specs.reply.Steps.{further_numbers}
-use Rattle.sessions.proofs.laws.reply.NumberLaws.{further_end, further_more}
+use Rattle.sessions.specs.Replies.{further_numbers}
+use Rattle.sessions.proofs.laws.ReplyLaws.{further_end, further_more}
 use Rattle.sessions.proofs.reply.lines.put_further.Goals as goal
 
 pub loop-at-preserved : goal.loop-at-preserved

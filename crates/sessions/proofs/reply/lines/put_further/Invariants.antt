@@ -1,6 +1,6 @@
 use Rattle.std.proofs.Common.{◌≡◌, ℕ, ◌+◌, ◌-◌, List, ◌++◌, length, drop}
 use Rattle.fields.specs.text.Tap.{Wrote}
-use Rattle.sessions.specs.reply.Steps.{further_numbers}
+use Rattle.sessions.specs.Replies.{further_numbers}
 use Rattle.sessions.proofs.reply.lines.put_further.Given as goal
 
 -- what was written, and the further numbers of what is left of the row

@@ -1,9 +1,9 @@
 use Rattle.std.proofs.Common.{◌≡◌, ◌++◌, codes, flat_map, refl}
 use Rattle.fields.specs.numbers.Field.{name}
 use Rattle.fields.proofs.laws.text.PutLaws.{puts-after, stops-in}
-use Rattle.classify.specs.classifier.OfRules.{lines_of}
+use Rattle.classify.specs.Classifier.{lines_of}
 use Rattle.table.specs.chains.Table.{chain_at}
-use Rattle.sessions.specs.reply.Lines.{piece_text}
+use Rattle.sessions.specs.Replies.{piece_text}
 use Rattle.sessions.proofs.reply.lines.put_line.Goals as goal
 
 pub returns-in_err-put : goal.returns-in_err-put

@@ -1,6 +1,6 @@
 use Rattle.fields.proofs.laws.text.PutLaws.{puts-stopped, stopped-at}
 use Rattle.table.specs.chains.Table.{chain_at}
-use Rattle.sessions.specs.reply.Lines.{field_line}
+use Rattle.sessions.specs.Replies.{field_line}
 use Rattle.sessions.proofs.reply.lines.put_lines.Goals as goal
 
 pub returns-in_err-put_line : goal.returns-in_err-put_line

@@ -1,7 +1,7 @@
 use Rattle.std.proofs.Common.{take, flat_map}
 use Rattle.fields.specs.text.Tap.{Wrote}
 use Rattle.table.specs.chains.Table.{chain_at}
-use Rattle.sessions.specs.reply.Lines.{field_line}
+use Rattle.sessions.specs.Replies.{field_line}
 use Rattle.sessions.proofs.reply.lines.put_lines.Given as goal
 
 abbrev pub invariant-loop-field : goal.invariant-loop-field

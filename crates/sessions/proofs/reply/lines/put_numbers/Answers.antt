@@ -2,8 +2,8 @@ use Rattle.std.proofs.Common.{◌+◌, List, ℕ, drop, sym, subst}
 use Rattle.std.specs.Prelude.{decimal}
 use Rattle.fields.specs.text.Tap.{Wrote}
 use Rattle.fields.proofs.laws.text.PutLaws.{puts-after, stops-in, wrote-nothing}
-use Rattle.sessions.specs.reply.Steps.{further_numbers}
-use Rattle.sessions.proofs.laws.reply.NumberLaws.{text_of_none, text_of_first}
+use Rattle.sessions.specs.Replies.{further_numbers}
+use Rattle.sessions.proofs.laws.ReplyLaws.{text_of_none, text_of_first}
 use Rattle.sessions.proofs.reply.lines.put_numbers.Goals as goal
 
 pub returns-in_default : goal.returns-in_default

@@ -1,6 +1,6 @@
 use Rattle.std.proofs.Common.{◌++◌, codes, refl}
 use Rattle.fields.proofs.laws.text.PutLaws.{puts-after, stops-in}
-use Rattle.sessions.specs.reply.Lines.{start_text, numbers_text}
+use Rattle.sessions.specs.Replies.{start_text, numbers_text}
 use Rattle.sessions.proofs.reply.lines.put_piece.Goals as goal
 
 pub returns-in_err-put : goal.returns-in_err-put

@@ -1,6 +1,6 @@
 use Rattle.std.proofs.Common.{[], arith}
 use Rattle.fields.proofs.laws.text.PutLaws.{puts-stopped, stopped-at}
-use Rattle.sessions.specs.reply.Lines.{piece_text}
+use Rattle.sessions.specs.Replies.{piece_text}
 use Rattle.sessions.proofs.reply.lines.put_pieces.Goals as goal
 
 pub returns-in_err-put_piece : goal.returns-in_err-put_piece

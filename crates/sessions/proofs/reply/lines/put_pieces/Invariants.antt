@@ -1,6 +1,6 @@
 use Rattle.std.proofs.Common.{take, flat_map}
 use Rattle.fields.specs.text.Tap.{Wrote}
-use Rattle.sessions.specs.reply.Lines.{piece_text}
+use Rattle.sessions.specs.Replies.{piece_text}
 use Rattle.sessions.proofs.reply.lines.put_pieces.Given as goal
 
 abbrev pub invariant-loop-at : goal.invariant-loop-at

@@ -1,7 +1,6 @@
 use Rattle.fields.proofs.laws.text.PutLaws.{puts-stopped, stopped-at}
 use Rattle.table.specs.declared.walk.trail.Step.{Step}
-use Rattle.sessions.specs.reply.Steps.{entry_at}
-use Rattle.sessions.specs.reply.Walked.{entry_line}
+use Rattle.sessions.specs.Replies.{entry_at, entry_line}
 use Rattle.sessions.proofs.reply.walk.put_entries.Goals as goal
 
 pub returns-in_err-put_entry : goal.returns-in_err-put_entry

@@ -1,7 +1,6 @@
 use Rattle.std.proofs.Common.{take, flat_map}
 use Rattle.fields.specs.text.Tap.{Wrote}
-use Rattle.sessions.specs.reply.Steps.{entry_at}
-use Rattle.sessions.specs.reply.Walked.{entry_line}
+use Rattle.sessions.specs.Replies.{entry_at, entry_line}
 use Rattle.sessions.proofs.reply.walk.put_entries.Given as goal
 
 abbrev pub invariant-loop-step : goal.invariant-loop-step

@@ -1,7 +1,7 @@
 use Rattle.std.proofs.Common.{◌++◌, codes, refl}
 use Rattle.fields.proofs.laws.text.PutLaws.{puts-after, stops-in}
 use Rattle.fields.specs.values.RejectType.{reject_text}
-use Rattle.sessions.specs.reply.Walked.{cause_text}
+use Rattle.sessions.specs.Replies.{cause_text}
 use Rattle.sessions.proofs.reply.walk.put_rejected.Goals as goal
 
 pub returns-in_err-put : goal.returns-in_err-put

@@ -1,7 +1,6 @@
 use Rattle.fields.proofs.laws.text.PutLaws.{puts-after, stops-in}
-use Rattle.sessions.specs.reply.Walked.{verdict_line}
-use Rattle.sessions.specs.reply.Steps.{steps_text}
-use Rattle.sessions.proofs.laws.reply.WalkedLaws.{text_shown, reply_shown}
+use Rattle.sessions.specs.Replies.{verdict_line, steps_text}
+use Rattle.sessions.proofs.laws.ReplyLaws.{text_shown, reply_shown}
 use Rattle.std.proofs.Common.{refl}
 use Rattle.sessions.proofs.reply.walk.write_walk.Goals as goal
 

@@ -1,4 +1,4 @@
-use Rattle.sessions.proofs.laws.run.ExecuteLaws.{gives_nothing}
+use Rattle.sessions.proofs.laws.run.ReachedLaws.{gives_nothing}
 use Rattle.sessions.specs.run.Console.{writer}
 use Rattle.sessions.proofs.run.session.hand_on_in_time.Goals as goal
 

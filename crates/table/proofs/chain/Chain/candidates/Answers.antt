@@ -1,7 +1,7 @@
 use Rattle.std.proofs.Common.{◌≡◌, ◌∙◌, ap, map, ℕ, Bool, List}
 use Rattle.rules.specs.rule.Allows.{allows_each}
 use Rattle.rules.specs.rule.Rules.{Rule}
-use Rattle.classify.specs.classifier.Classifier.{IsClassifierOfRules}
+use Rattle.classify.specs.Classifier.{IsClassifierOfRules}
 use Rattle.table.specs.steps.StoredChains.{IsClassified, StoredChain, rules_in}
 use Rattle.table.proofs.chain.Chain.candidates.Goals as goal
 

@@ -1,11 +1,10 @@
 use Rattle.std.proofs.Common.{sym, ◌∙◌, ap, subst, map, List}
 use Rattle.std.specs.List.{insert}
-use Rattle.classify.specs.classifier.Classifier.{IsClassifierOfRules}
-use Rattle.table.specs.steps.Edges.{AreEdges}
-use Rattle.table.specs.steps.StoredChains.{rule_in}
+use Rattle.classify.specs.Classifier.{IsClassifierOfRules}
+use Rattle.table.specs.steps.StoredChains.{AreEdges, rule_in}
 use Rattle.table.specs.declared.chain.entry.Entry.{Entry}
-use Rattle.table.proofs.laws.chains.StoredChainLaws.{inserted}
-use Rattle.table.proofs.laws.edits.EdgeEditLaws.{edges_inserted}
+use Rattle.table.proofs.laws.chains.StoreLaws.{inserted}
+use Rattle.table.proofs.laws.edits.EditLaws.{edges_inserted}
 use Rattle.table.proofs.chain.Chain.insert.Goals as goal
 
 pub invariant_of-self-in-Ok : goal.invariant_of-self-in-Ok

@@ -1,5 +1,5 @@
 use Rattle.std.proofs.Common.{◌∙◌, sym, refl}
-use Rattle.table.proofs.laws.search.CandidateLaws.{asked_fails, asked_holds, asked_none}
+use Rattle.table.proofs.laws.walk.TableWalkLaws.{asked_fails, asked_holds, asked_none}
 use Rattle.table.proofs.chain.Chain.next.Goals as goal
 
 pub returns-else-not-cross-clause-next : goal.returns-else-not-cross-clause-next

@@ -1,5 +1,5 @@
 use Rattle.std.proofs.Common.{◌∙◌, refl, sym}
-use Rattle.table.proofs.laws.search.CandidateLaws.{asked_fails, asked_holds, asked_none}
+use Rattle.table.proofs.laws.walk.TableWalkLaws.{asked_fails, asked_holds, asked_none}
 use Rattle.table.proofs.chain.Chain.next_among.Goals as goal
 
 pub returns-then-cross-clause-next : goal.returns-then-cross-clause-next

@@ -1,5 +1,5 @@
 use Rattle.std.proofs.Common.{◌≡◌, ◌-◌, length}
-use Rattle.classify.specs.search.NextMatch.{next_match}
+use Rattle.classify.specs.NextMatch.{next_match}
 use Rattle.rules.specs.rule.Allows.{matches}
 use Rattle.table.specs.steps.StoredChains.{rules_in}
 use Rattle.table.proofs.chain.Chain.next_among.Given as goal

@@ -1,10 +1,9 @@
 use Rattle.std.proofs.Common.{length, sym, ap, arith, subst, map, List}
-use Rattle.classify.specs.classifier.Classifier.{IsClassifierOfRules}
-use Rattle.table.specs.steps.Edges.{AreEdges}
-use Rattle.table.specs.steps.StoredChains.{StoredChain, rule_in}
+use Rattle.classify.specs.Classifier.{IsClassifierOfRules}
+use Rattle.table.specs.steps.StoredChains.{AreEdges, StoredChain, rule_in}
 use Rattle.table.specs.declared.chain.entry.Entry.{Entry}
-use Rattle.table.proofs.laws.chains.StoredChainLaws.{removed}
-use Rattle.table.proofs.laws.edits.EdgeEditLaws.{edges_removed}
+use Rattle.table.proofs.laws.chains.StoreLaws.{removed}
+use Rattle.table.proofs.laws.edits.EditLaws.{edges_removed}
 use Rattle.table.proofs.chain.Chain.remove.Goals as goal
 
 pub invariant_of-self : goal.invariant_of-self

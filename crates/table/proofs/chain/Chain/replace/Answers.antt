@@ -1,8 +1,7 @@
 use Rattle.std.proofs.Common.{length, sym, ap, arith, subst}
-use Rattle.table.specs.steps.Edges.{AreEdges}
-use Rattle.table.specs.steps.StoredChains.{StoredChain}
-use Rattle.table.proofs.laws.chains.StoredChainLaws.{replaced}
-use Rattle.table.proofs.laws.edits.EdgeEditLaws.{edges_replaced}
+use Rattle.table.specs.steps.StoredChains.{AreEdges, StoredChain}
+use Rattle.table.proofs.laws.chains.StoreLaws.{replaced}
+use Rattle.table.proofs.laws.edits.EditLaws.{edges_replaced}
 use Rattle.table.proofs.chain.Chain.replace.Goals as goal
 
 pub invariant_of-self-2 : goal.invariant_of-self-2

@@ -1,7 +1,6 @@
 use Rattle.std.proofs.Common.{sym, subst, map, List}
-use Rattle.classify.specs.classifier.Classifier.{IsClassifierOfRules}
-use Rattle.table.specs.steps.StoredChains.{rule_in}
-use Rattle.table.specs.steps.Edges.{AreEdges}
+use Rattle.classify.specs.Classifier.{IsClassifierOfRules}
+use Rattle.table.specs.steps.StoredChains.{rule_in, AreEdges}
 use Rattle.table.specs.declared.chain.entry.Entry.{Entry}
 use Rattle.table.proofs.laws.edits.RetargetLaws.{retargeted_classified}
 use Rattle.table.proofs.laws.edits.RenameLaws.{edges_retargeted}

@@ -1,8 +1,8 @@
 use Rattle.std.proofs.Common.{◌≢◌, ◌<◌, ◌+◌, ◌++◌, ◌∷◌, [], ℕ, length, get_or, refl, sym, arith, subst, List, Option}
 use Rattle.std.proofs.Math.ListN.{set}
-use Rattle.table.specs.steps.Edges.{AreDistinct, CountsMore, ends}
+use Rattle.table.specs.steps.StoredChains.{AreDistinct, CountsMore, ends}
 use Rattle.table.specs.declared.chain.edges.Edge.{Edge}
-use Rattle.table.proofs.laws.chains.EdgeLaws.{edge_at, raised_distinct, raised_counts, pushed_distinct, pushed_counts}
+use Rattle.table.proofs.laws.chains.CountLaws.{edge_at, raised_distinct, raised_counts, pushed_distinct, pushed_counts}
 use Rattle.table.proofs.chain.edges.add.Goals as goal
 
 pub returns-in-Ok-clause-distinct : goal.returns-in-Ok-clause-distinct

@@ -1,7 +1,7 @@
 use Rattle.std.proofs.Common.{ℕ, ◌∙◌, sym, ap, arith, get_or, inl, inr}
 use Rattle.std.proofs.lemmas.Bool.{cases_eq}
-use Rattle.table.specs.steps.Edges.{ends}
-use Rattle.table.proofs.laws.chains.EdgeLaws.{end_at}
+use Rattle.table.specs.steps.StoredChains.{ends}
+use Rattle.table.proofs.laws.chains.CountLaws.{end_at}
 use Rattle.table.proofs.chain.edges.place_of.Goals as goal
 
 pub loop-place-preserved : goal.loop-place-preserved

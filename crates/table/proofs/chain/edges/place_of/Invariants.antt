@@ -1,5 +1,5 @@
 use Rattle.std.proofs.Common.{◌≢◌, ℕ, ◌<◌, get_or}
-use Rattle.table.specs.steps.Edges.{ends}
+use Rattle.table.specs.steps.StoredChains.{ends}
 use Rattle.table.proofs.chain.edges.place_of.Given as goal
 
 -- no edge up to the place leads there

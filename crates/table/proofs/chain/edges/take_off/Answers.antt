@@ -2,9 +2,9 @@ use Rattle.std.proofs.Common.{◌≢◌, ◌<◌, ◌-◌, ℕ, length, get_or, 
 use Rattle.std.proofs.Math.ListN.{set}
 use Rattle.std.specs.Prelude.{remove}
 use Rattle.std.specs.Option.{IfSome}
-use Rattle.table.specs.steps.Edges.{AreDistinct, CountsFewer, counted, ends}
+use Rattle.table.specs.steps.StoredChains.{AreDistinct, CountsFewer, counted, ends}
 use Rattle.table.specs.declared.chain.edges.Edge.{Edge}
-use Rattle.table.proofs.laws.chains.EdgeLaws.{edge_at, edge_again, edge_some, counted_none, raised_distinct, lowered_counts, removed_distinct, removed_counts}
+use Rattle.table.proofs.laws.chains.CountLaws.{edge_at, edge_again, edge_some, counted_none, raised_distinct, lowered_counts, removed_distinct, removed_counts}
 use Rattle.table.proofs.chain.edges.take_off.Goals as goal
 
 pub unreachable-requires : goal.unreachable-requires

@@ -3,7 +3,7 @@ use Rattle.std.proofs.Math.ListN.{set}
 use Rattle.std.proofs.lemmas.List.{length-set}
 use Rattle.std.proofs.lemmas.List.Edits.{map_over_more}
 use Rattle.table.specs.declared.chain.entry.Entry.{Entry}
-use Rattle.table.specs.steps.Renames.{retargeted}
+use Rattle.table.specs.steps.Kept.{retargeted}
 use Rattle.table.proofs.chain.entry.retarget.Goals as goal
 
 pub loop-at-preserved : goal.loop-at-preserved

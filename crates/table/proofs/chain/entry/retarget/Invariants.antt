@@ -1,5 +1,5 @@
 use Rattle.std.proofs.Common.{◌≡◌, map, take, drop, ◌++◌, length}
-use Rattle.table.specs.steps.Renames.{retargeted}
+use Rattle.table.specs.steps.Kept.{retargeted}
 use Rattle.table.proofs.chain.entry.retarget.Given as goal
 
 -- the rules passed have the name

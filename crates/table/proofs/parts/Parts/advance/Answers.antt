@@ -3,8 +3,7 @@ use Rattle.table.specs.steps.Kept.{listed}
 use Rattle.table.specs.steps.Walking.{rests_of}
 use Rattle.table.specs.walk.Walk.{first_hit, Rest}
 use Rattle.table.specs.declared.walk.Pending.{Pending}
-use Rattle.table.proofs.laws.walk.HitLaws.{past_chain, hit_under, none_left}
-use Rattle.table.proofs.laws.walk.StackLaws.{rests_pop, state_pop}
+use Rattle.table.proofs.laws.walk.TableWalkLaws.{past_chain, hit_under, none_left, rests_pop, state_pop}
 use Rattle.table.proofs.parts.Parts.advance.Goals as goal
 
 pub returns-in-Some-clause-some : goal.returns-in-Some-clause-some

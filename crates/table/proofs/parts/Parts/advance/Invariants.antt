@@ -1,7 +1,6 @@
 use Rattle.std.proofs.Common.{◌≡◌, length}
-use Rattle.table.specs.steps.Found.{AreFound}
+use Rattle.table.specs.steps.Walking.{AreFound, state_of, IsState}
 use Rattle.table.specs.steps.Kept.{listed}
-use Rattle.table.specs.steps.Walking.{state_of, IsState}
 use Rattle.table.specs.walk.Walk.{first_hit}
 use Rattle.table.proofs.parts.Parts.advance.Given as goal
 

@@ -1,7 +1,7 @@
 use Rattle.std.proofs.Common.{ap, arith, length, List}
 use Rattle.table.specs.declared.chain.entry.Entry.{Entry}
 use Rattle.table.proofs.laws.chains.CountLaws.{rules_few}
-use Rattle.table.proofs.laws.chains.KeptLaws.{found}
+use Rattle.table.proofs.laws.chains.StoreLaws.{found}
 use Rattle.table.proofs.laws.edits.EditLaws.{found_entries}
 use Rattle.table.proofs.parts.Parts.count_at.Goals as goal
 

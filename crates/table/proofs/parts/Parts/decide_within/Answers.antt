@@ -2,7 +2,7 @@ use Rattle.std.proofs.Common.{◌≡◌, ◌∙◌, ◌-◌, refl, arith, sym, a
 use Rattle.table.specs.steps.Kept.{listed}
 use Rattle.table.specs.steps.Walking.{state_of}
 use Rattle.table.specs.walk.Walk.{Rest, Ends, GoesOn, walk_within}
-use Rattle.table.proofs.laws.walk.StepResultLaws.{within_end, within_long, within_hit, within_policy, verdict_in, verdict_after, depth_after, room_short, start_state, start_rests, start_depth}
+use Rattle.table.proofs.laws.walk.WalkLaws.{within_end, within_long, within_hit, within_policy, verdict_in, verdict_after, depth_after, room_short, start_state, start_rests, start_depth}
 use Rattle.table.proofs.parts.Parts.decide_within.Goals as goal
 
 pub walk-init : goal.walk-init

@@ -3,7 +3,7 @@ use Rattle.std.proofs.Math.ListN.{set}
 use Rattle.std.proofs.lemmas.List.{get_or_default}
 use Rattle.table.specs.steps.Kept.{slot_at, stored_at, table_with}
 use Rattle.table.specs.steps.StoredChains.{StoredChain}
-use Rattle.table.proofs.laws.chains.KeptLaws.{found_key, some_stored}
+use Rattle.table.proofs.laws.chains.StoreLaws.{found_key, some_stored}
 use Rattle.table.proofs.laws.edits.EditLaws.{empty_kept, empty_table, kept_same}
 use Rattle.table.proofs.parts.Parts.empty.Goals as goal
 

@@ -1,6 +1,6 @@
 use Rattle.std.proofs.Common.{◌≡◌, ◌∙◌, refl, sym, arith, subst, length, ℕ}
 use Rattle.std.proofs.lemmas.List.{get_or_default}
-use Rattle.table.proofs.laws.edits.FlushLaws.{AreEmptied, next_emptied, all_emptied, all_kept}
+use Rattle.table.proofs.laws.edits.EditLaws.{AreEmptied, next_emptied, all_emptied, all_kept}
 use Rattle.table.proofs.parts.Parts.empty_all.Goals as goal
 
 pub loop-place-preserved : goal.loop-place-preserved

@@ -1,4 +1,4 @@
-use Rattle.table.proofs.laws.edits.FlushLaws.{AreEmptied}
+use Rattle.table.proofs.laws.edits.EditLaws.{AreEmptied}
 use Rattle.table.proofs.parts.Parts.empty_all.Given as goal
 
 abbrev pub invariant-loop-place : goal.invariant-loop-place

@@ -1,7 +1,7 @@
 use Rattle.std.proofs.Common.{◌≡◌, ◌≤◌, ◌∙◌, ◌<◌, Bool, List, length, false, get_or, sym, arith}
 use Rattle.std.proofs.lemmas.Bool.{false≢true}
 use Rattle.std.proofs.lemmas.List.{get_or_default}
-use Rattle.table.proofs.laws.search.SearchLaws.{search_first, search_found}
+use Rattle.table.proofs.laws.SearchLaws.{search_first, search_found}
 use Rattle.table.proofs.parts.Parts.finds.Goals.{then-loop-at-test+else-not-index, else-loop-at-test}
 use Rattle.table.proofs.parts.Parts.finds.Goals as goal
 

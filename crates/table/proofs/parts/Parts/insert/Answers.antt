@@ -1,5 +1,5 @@
 use Rattle.std.proofs.Common.{refl}
-use Rattle.table.proofs.laws.chains.KeptLaws.{found}
+use Rattle.table.proofs.laws.chains.StoreLaws.{found}
 use Rattle.table.proofs.laws.edits.EditLaws.{IsPutIn, counts_in_there, put_kept, put_table}
 use Rattle.table.proofs.parts.Parts.insert.Goals as goal
 

@@ -1,6 +1,6 @@
 use Rattle.std.proofs.Common.{◌∙◌, sym, length}
 use Rattle.std.proofs.lemmas.Bool.{eqb-true}
-use Rattle.table.proofs.laws.search.SearchLaws.{same_leads, leads_nowhere}
+use Rattle.table.proofs.laws.SearchLaws.{same_leads, leads_nowhere}
 use Rattle.table.proofs.parts.Parts.reaches.Goals as goal
 
 pub returns-then-from-goal-clause-found : goal.returns-then-from-goal-clause-found

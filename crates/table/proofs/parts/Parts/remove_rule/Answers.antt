@@ -2,7 +2,7 @@ use Rattle.std.proofs.Common.{◌≡◌, ◌∙◌, ◌<◌, refl, sym, ap, arit
 use Rattle.std.proofs.lemmas.Option.{same_Some}
 use Rattle.table.specs.steps.StoredChains.{StoredChain, key_in}
 use Rattle.table.specs.declared.chain.entry.Entry.{Entry}
-use Rattle.table.proofs.laws.chains.KeptLaws.{found}
+use Rattle.table.proofs.laws.chains.StoreLaws.{found}
 use Rattle.table.proofs.laws.edits.EditLaws.{IsTakenOut, found_entries, counts_out_there, out_kept, out_table}
 use Rattle.table.proofs.parts.Parts.remove_rule.Goals as goal
 

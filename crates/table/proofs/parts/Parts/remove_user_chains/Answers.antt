@@ -1,7 +1,7 @@
 use Rattle.std.proofs.Common.{◌≡◌, ◌∙◌, ◌-◌, ◌<◌, sym, arith, length, ℕ, None}
 use Rattle.table.specs.edits.Edits.{DeleteChain, fault_of}
 use Rattle.table.specs.steps.Kept.{name_at, table_of}
-use Rattle.table.proofs.laws.edits.DeleteAllLaws.{one_goes, others_go, same_left, none_left}
+use Rattle.table.proofs.laws.edits.DeleteLaws.{one_goes, others_go, same_left, none_left}
 use Rattle.table.proofs.parts.Parts.remove_user_chains.Goals as goal
 
 pub remove_chain-requires-clause-accepted : goal.remove_chain-requires-clause-accepted

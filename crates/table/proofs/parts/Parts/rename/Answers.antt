@@ -1,8 +1,7 @@
 use Rattle.std.proofs.Common.{◌≡◌, ◌∙◌, sym, ap, get_or, List, ℕ, Option, Some}
 use Rattle.std.proofs.Math.ListN.{set}
 use Rattle.std.proofs.lemmas.List.{get_or_default}
-use Rattle.table.specs.steps.Kept.{stored_at, name_at, table_with}
-use Rattle.table.specs.steps.Renames.{moved_key}
+use Rattle.table.specs.steps.Kept.{stored_at, name_at, table_with, moved_key}
 use Rattle.table.specs.steps.StoredChains.{StoredChain}
 use Rattle.table.proofs.laws.edits.EditLaws.{kept_same}
 use Rattle.table.proofs.laws.edits.RenameLaws.{is_rename, kept_renamed, renamed_set, table_renamed}

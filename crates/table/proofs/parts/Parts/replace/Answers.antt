@@ -1,11 +1,10 @@
-use Rattle.std.proofs.Common.{◌≡◌, ◌∙◌, ◌<◌, refl, sym, ap, arith, length, List, Option, get_or}
+use Rattle.std.proofs.Common.{◌≡◌, ◌∙◌, ◌<◌, refl, sym, ap, arith, length, List, Option, get_or, Some}
 use Rattle.std.proofs.lemmas.Option.{same_Some}
-use Rattle.std.proofs.Common.{Some}
 use Rattle.std.proofs.Math.ListN.{set}
 use Rattle.table.specs.steps.Kept.{references_at}
 use Rattle.table.specs.steps.StoredChains.{StoredChain, key_in}
 use Rattle.table.specs.declared.chain.entry.Entry.{Entry}
-use Rattle.table.proofs.laws.chains.KeptLaws.{found}
+use Rattle.table.proofs.laws.chains.StoreLaws.{found}
 use Rattle.table.proofs.laws.edits.EditLaws.{IsPutOver, found_entries, counts_in_there, counts_out_there, counts_out_after, counts_on, recounted_on, over_kept, over_table}
 use Rattle.table.proofs.parts.Parts.replace.Goals as goal
 

@@ -2,7 +2,7 @@ use Rattle.std.proofs.Common.{◌∙◌, Bool, Some, None, sym, ap, arith}
 use Rattle.std.specs.Prelude.{if◌then◌else◌}
 use Rattle.table.specs.edits.Edits.{Loop}
 use Rattle.table.specs.steps.Kept.{name_at}
-use Rattle.table.proofs.laws.search.CheckLaws.{target_missing, target_built_in, target_led, target_links}
+use Rattle.table.proofs.laws.edits.AnswerLaws.{target_missing, target_built_in, target_led, target_links}
 use Rattle.table.proofs.parts.Parts.resolve_target.Goals as goal
 
 pub returns-in_default-clause-err : goal.returns-in_default-clause-err

@@ -1,7 +1,6 @@
 use Rattle.std.proofs.Common.{◌≡◌, ◌∙◌, ◌<◌, sym, ap, arith, subst, length, ℕ, Option, unwrap_or}
 use Rattle.std.proofs.lemmas.List.{get_or_default}
-use Rattle.table.specs.steps.Kept.{blank}
-use Rattle.table.specs.steps.Renames.{AreRetargeted}
+use Rattle.table.specs.steps.Kept.{blank, AreRetargeted}
 use Rattle.table.specs.steps.StoredChains.{StoredChain}
 use Rattle.table.proofs.laws.edits.RetargetLaws.{no_rule_retargeted, none_retargeted, next_retargeted, name_chains}
 use Rattle.table.proofs.parts.Parts.retarget_all.Goals as goal

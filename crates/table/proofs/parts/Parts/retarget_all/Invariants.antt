@@ -1,4 +1,4 @@
-use Rattle.table.specs.steps.Renames.{AreRetargeted}
+use Rattle.table.specs.steps.Kept.{AreRetargeted}
 use Rattle.table.proofs.parts.Parts.retarget_all.Given as goal
 
 abbrev pub invariant-loop-place : goal.invariant-loop-place

@@ -5,8 +5,7 @@ use Rattle.std.proofs.lemmas.List.{length-map}
 use Rattle.table.specs.edits.Edits.{has_rules}
 use Rattle.table.specs.steps.StoredChains.{StoredChain, rule_in}
 use Rattle.table.specs.steps.Kept.{stored_at}
-use Rattle.table.proofs.laws.edits.DeleteLaws.{stored_here}
-use Rattle.table.proofs.laws.edits.DeleteAllLaws.{users_any, users_none}
+use Rattle.table.proofs.laws.edits.DeleteLaws.{stored_here, users_any, users_none}
 use Rattle.table.proofs.parts.Parts.some_has_rules.Goals as goal
 
 pub returns-then-len-gt0 : goal.returns-then-len-gt0

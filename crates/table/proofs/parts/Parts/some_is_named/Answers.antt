@@ -3,8 +3,7 @@ use Rattle.std.proofs.lemmas.Bool.{lt-ltb, le-ltb}
 use Rattle.table.specs.chains.Table.{Chain, is_referenced}
 use Rattle.table.specs.steps.StoredChains.{StoredChain}
 use Rattle.table.specs.steps.Kept.{listed, references_at}
-use Rattle.table.proofs.laws.edits.DeleteLaws.{stored_here, referenced_is}
-use Rattle.table.proofs.laws.edits.DeleteAllLaws.{users_any, users_none}
+use Rattle.table.proofs.laws.edits.DeleteLaws.{stored_here, referenced_is, users_any, users_none}
 use Rattle.table.proofs.parts.Parts.some_is_named.Goals as goal
 
 pub returns-then-references-gt0 : goal.returns-then-references-gt0

@@ -1,5 +1,5 @@
 use Rattle.std.proofs.Common.{◌∙◌, sym}
-use Rattle.table.proofs.laws.walk.StackLaws.{place_under, step_there}
+use Rattle.table.proofs.laws.walk.TableWalkLaws.{place_under, step_there}
 use Rattle.table.proofs.parts.Parts.step_before.Goals as goal
 
 pub unreachable-requires : goal.unreachable-requires

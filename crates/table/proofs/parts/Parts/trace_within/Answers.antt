@@ -1,11 +1,9 @@
 use Rattle.std.proofs.Common.{◌≡◌, ◌∙◌, ◌-◌, ◌++◌, ◌∷◌, refl, arith, sym, ap, map, true, false, List, [], Some, unwrap_or}
 use Rattle.table.specs.steps.Kept.{listed}
 use Rattle.table.specs.steps.Walking.{state_of}
-use Rattle.table.specs.walk.Trail.{shown}
-use Rattle.table.specs.walk.Walk.{Rest, Ends, GoesOn, at_end, decided, with_entry, walk_within, too_long}
+use Rattle.table.specs.walk.Walk.{shown, Rest, Ends, GoesOn, at_end, decided, with_entry, walk_within, too_long}
 use Rattle.table.specs.declared.verdict.Verdict.TheVariants as verdict
-use Rattle.table.proofs.laws.walk.StepResultLaws.{within_end, within_long, within_hit, within_policy, depth_after, room_short, start_state, start_rests, start_depth}
-use Rattle.table.proofs.laws.walk.TrailLaws.{after, after_none, after_one, shown_end, shown_one, shows_end, shows_long}
+use Rattle.table.proofs.laws.walk.WalkLaws.{within_end, within_long, within_hit, within_policy, depth_after, room_short, start_state, start_rests, start_depth, after, after_none, after_one, shown_end, shown_one, shows_end, shows_long}
 use Rattle.table.proofs.parts.Parts.trace_within.Goals as goal
 
 pub walk-init : goal.walk-init

@@ -1,10 +1,9 @@
 use Rattle.std.proofs.Common.{◌≡◌, ◌<◌, ◌≤◌, length, List}
-use Rattle.table.specs.steps.Found.{AreFound}
+use Rattle.table.specs.steps.Walking.{AreFound, state_of, IsState, walk_at}
 use Rattle.table.specs.steps.Kept.{listed}
-use Rattle.table.specs.steps.Walking.{state_of, IsState, walk_at}
 use Rattle.table.specs.walk.Depth.{depth_within}
 use Rattle.table.specs.walk.Walk.{Entry, walk_within}
-use Rattle.table.proofs.laws.walk.TrailLaws.{after, AreShown}
+use Rattle.table.proofs.laws.walk.WalkLaws.{after, AreShown}
 use Rattle.table.proofs.parts.Parts.trace_within.Given as goal
 
 abbrev pub invariant-walk : goal.invariant-walk

@@ -1,7 +1,7 @@
 use Rattle.std.proofs.Common.{ℕ, ◌<◌, List, length, get_or, ap, arith}
 use Rattle.table.specs.declared.chain.edges.Edge.{Edge}
-use Rattle.table.proofs.laws.chains.EdgeLaws.{end_at}
-use Rattle.table.proofs.laws.search.SearchLaws.{at_there, link_within, link_room, visit_first, visit_next, visit_over}
+use Rattle.table.proofs.laws.chains.CountLaws.{end_at}
+use Rattle.table.proofs.laws.SearchLaws.{at_there, link_within, link_room, visit_first, visit_next, visit_over}
 use Rattle.table.proofs.parts.Parts.visit.Goals as goal
 
 -- no edge

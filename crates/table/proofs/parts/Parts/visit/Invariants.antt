@@ -1,5 +1,5 @@
 use Rattle.std.proofs.Common.{get_or}
-use Rattle.table.proofs.laws.search.SearchLaws.{IsVisit}
+use Rattle.table.proofs.laws.SearchLaws.{IsVisit}
 use Rattle.table.proofs.parts.Parts.visit.Given as goal
 
 abbrev pub invariant-loop-place : goal.invariant-loop-place

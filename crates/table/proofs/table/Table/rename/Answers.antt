@@ -4,7 +4,7 @@ use Rattle.table.specs.chains.Table.{is_named}
 use Rattle.table.specs.edits.Edits.{Cause, Rename, edited, NoSuchChain, BuiltInChain, BadChainName, ChainExists, built_in, bad_name, exists_already, fault_of, first_fault}
 use Rattle.table.specs.steps.Kept.{IsIndexFor, AreStored, table_of, view_of}
 use Rattle.table.specs.declared.parts.Parts.{Parts}
-use Rattle.table.proofs.laws.edits.MarkLaws.{moved_unmarked}
+use Rattle.table.proofs.laws.edits.RetargetLaws.{moved_unmarked}
 use Rattle.table.proofs.laws.chains.PlaceLaws.{placed_nowhere}
 use Rattle.table.proofs.laws.chains.StoreLaws.{built_in_first, user_after}
 use Rattle.table.proofs.laws.edits.AnswerLaws.{done, refused, nowhere, somewhere, holds, passes, name_found}

@@ -6,7 +6,7 @@ use Rattle.table.specs.chains.Table.{Table, Policy, is_built_in, is_named}
 use Rattle.table.specs.edits.Edits.{Cause, SetPolicy, NoSuchChain, NotBuiltInChain, BadPolicy, edited, fault_of, first_fault, policy_named, policies_with}
 use Rattle.table.specs.steps.Kept.{classifiers, name_in, table_of, table_with, AreStored}
 use Rattle.table.specs.declared.parts.Parts.{Parts}
-use Rattle.table.proofs.laws.chains.ChainLaws.{set_policy_sound}
+use Rattle.table.proofs.laws.chains.StepLaws.{set_policy_sound}
 use Rattle.table.proofs.laws.chains.StoreLaws.{built_in_first, place_built_in, user_after}
 use Rattle.table.proofs.laws.edits.AnswerLaws.{done, refused, nowhere, somewhere, holds, passes, name_found}
 use Rattle.table.proofs.table.Table.set_policy.Goals as goal

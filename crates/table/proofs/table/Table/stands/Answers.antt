@@ -1,5 +1,5 @@
 use Rattle.table.proofs.laws.edits.AnswerLaws.{classified_with}
-use Rattle.table.proofs.laws.chains.PathLaws.{leads_by_paths}
+use Rattle.table.proofs.laws.chains.SoundLaws.{leads_by_paths}
 use Rattle.table.specs.steps.Kept.{table_of}
 use Rattle.table.proofs.table.Table.stands.Goals as goal
 

@@ -2,8 +2,7 @@ use Rattle.std.proofs.Common.{◌∙◌, ap, subst}
 use Rattle.std.specs.Prelude.{IfOk}
 use Rattle.table.specs.chains.Table.{Accept, TableView}
 use Rattle.table.specs.steps.Kept.{table_of, hook_index}
-use Rattle.table.specs.walk.Walk.{Walked, walk}
-use Rattle.table.specs.walk.Trail.{Shows}
+use Rattle.table.specs.walk.Walk.{Walked, walk, Shows}
 use Rattle.table.proofs.laws.walk.CaseLaws.{walk_is}
 use Rattle.table.proofs.laws.walk.TableWalkLaws.{walk_with}
 use Rattle.table.proofs.table.Table.trail.Goals as goal

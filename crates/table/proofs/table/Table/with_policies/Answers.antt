@@ -2,7 +2,7 @@ use Rattle.std.proofs.Common.{◌∙◌, ap, arith, Bool, false, List, Option, g
 use Rattle.slab.specs.Slab.{Slab}
 use Rattle.table.specs.steps.Kept.{slot_at}
 use Rattle.table.specs.steps.StoredChains.{StoredChain}
-use Rattle.table.proofs.laws.chains.NewLaws.{whole_three}
+use Rattle.table.proofs.laws.chains.SoundLaws.{whole_three}
 use Rattle.table.proofs.table.Table.with_policies.Goals as goal
 
 pub invariant_of-result : goal.invariant_of-result

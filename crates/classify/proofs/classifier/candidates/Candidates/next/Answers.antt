@@ -1,8 +1,7 @@
 use Rattle.std.proofs.Common.{◌≡◌, ◌+◌, ◌∙◌, ap, arith, Bool, List, drop, length, take}
 use Rattle.bits.specs.declared.turned_rows.TurnedWords.{TurnedWords}
-use Rattle.classify.specs.search.NextMatch.{next_match}
-use Rattle.classify.specs.steps.CommonPlaces.{common_bits}
-use Rattle.classify.specs.steps.Summaries.{AreCandidates}
+use Rattle.classify.specs.NextMatch.{next_match}
+use Rattle.classify.specs.steps.CommonPlaces.{common_bits, AreCandidates}
 use Rattle.classify.proofs.laws.search.CandidateLaws.{are_counted, are_wide, are_few, are_summed, lent_are, lent_show, next_of_common}
 use Rattle.classify.proofs.classifier.candidates.Candidates.next.Goals.{After-margin-margin}
 use Rattle.classify.proofs.classifier.candidates.Candidates.next.Goals as goal

@@ -1,5 +1,5 @@
 use Rattle.std.proofs.Common.{◌+◌, ◌∙◌, ap, arith, Bool, List, take}
-use Rattle.classify.specs.search.NextMatch.{next_match}
+use Rattle.classify.specs.NextMatch.{next_match}
 use Rattle.classify.proofs.laws.search.CandidateLaws.{are_counted, are_wide, are_few, are_summed, next_of_common}
 use Rattle.classify.proofs.classifier.rows.CandidateRows.next.Goals as goal
 

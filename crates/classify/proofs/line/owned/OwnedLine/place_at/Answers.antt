@@ -1,5 +1,5 @@
 use Rattle.std.proofs.Common.{sym}
-use Rattle.classify.proofs.laws.line.ShownLaws.{row_of_piece}
+use Rattle.classify.proofs.laws.line.EditLaws.{row_of_piece}
 use Rattle.classify.specs.steps.Kept.{most_start}
 use Rattle.classify.proofs.line.owned.OwnedLine.place_at.Goals as goal
 

@@ -3,7 +3,7 @@ use Rattle.bits.specs.MarginRows.{after_margin}
 use Rattle.bits.specs.TurnedRows.{turned}
 use Rattle.bits.specs.steps.Packing.{IsPacked, all_bits}
 use Rattle.bits.specs.steps.Summaries.{IsSummaryOf}
-use Rattle.bits.specs.steps.RowWords.{words_of}
+use Rattle.bits.specs.steps.StoredRows.{words_of}
 use Rattle.classify.proofs.laws.line.PieceLaws.{kept_long, lent_row}
 use Rattle.classify.proofs.line.owned.OwnedLine.row.Goals as goal
 

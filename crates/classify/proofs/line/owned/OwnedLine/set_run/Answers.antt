@@ -2,8 +2,7 @@ use Rattle.std.proofs.Common.{◌<◌, ap, arith, length}
 use Rattle.bits.specs.MarginRows.{Room}
 use Rattle.classify.specs.steps.Kept.{PiecesAndRoom}
 use Rattle.classify.proofs.laws.line.KeptLaws.{row_long}
-use Rattle.classify.proofs.laws.line.PieceLaws.{each_row_kept, kept_long, kept_pieces}
-use Rattle.classify.proofs.laws.line.RunLaws.{pieces_written, written_line}
+use Rattle.classify.proofs.laws.line.PieceLaws.{each_row_kept, kept_long, kept_pieces, pieces_written, written_line}
 use Rattle.classify.proofs.line.owned.OwnedLine.set_run.Goals as goal
 
 pub set_run-requires-clause-within : goal.set_run-requires-clause-within

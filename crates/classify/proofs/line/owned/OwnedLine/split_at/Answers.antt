@@ -2,8 +2,8 @@ use Rattle.std.proofs.Common.{◌≡◌, ◌<◌, ◌+◌, ◌∙◌, sym, ap, a
 use Rattle.std.specs.List.{zip}
 use Rattle.std.specs.Prelude.{slice_index}
 use Rattle.std.proofs.lemmas.List.Edits.{length-insert}
-use Rattle.classify.specs.line.Line.{starts}
-use Rattle.classify.proofs.laws.line.StartLaws.{above_at}
+use Rattle.classify.specs.Line.{starts}
+use Rattle.classify.proofs.laws.line.PlaceLaws.{above_at}
 use Rattle.classify.proofs.laws.line.PieceLaws.{kept_long, kept_row, kept_pieces, kept_starts, pieces_inserted, remove-insert}
 use Rattle.classify.proofs.laws.line.KeptLaws.{split_kept, same_kept}
 use Rattle.bits.specs.MarginRows.{Room}

@@ -2,11 +2,11 @@ use Rattle.std.proofs.Common.{◌≡◌, ◌<◌, ◌+◌, ◌∙◌, sym, ap, a
 use Rattle.std.specs.List.{zip}
 use Rattle.std.specs.Prelude.{slice_index}
 use Rattle.std.proofs.lemmas.List.Edits.{length-remove}
-use Rattle.classify.specs.line.Line.{starts}
-use Rattle.classify.proofs.laws.line.StartLaws.{above_at}
+use Rattle.classify.specs.Line.{starts}
+use Rattle.classify.proofs.laws.line.PlaceLaws.{above_at}
 use Rattle.classify.proofs.laws.line.PieceLaws.{kept_long, kept_row, kept_pieces, kept_starts}
 use Rattle.classify.proofs.laws.line.KeptLaws.{same_kept}
-use Rattle.classify.proofs.laws.line.TwiceLaws.{cut_twice_kept, long_twice, pieces_cut_twice, taken_back}
+use Rattle.classify.proofs.laws.line.CutLaws.{cut_twice_kept, long_twice, pieces_cut_twice, taken_back}
 use Rattle.bits.specs.MarginRows.{Room}
 use Rattle.classify.specs.steps.Kept.{PiecesAndRoom}
 use Rattle.classify.proofs.line.owned.OwnedLine.split_twice_at.Goals as goal

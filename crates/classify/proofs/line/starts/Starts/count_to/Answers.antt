@@ -3,7 +3,7 @@ use Rattle.std.specs.Prelude.{slice_index}
 use Rattle.std.proofs.lemmas.List.{length-append}
 use Rattle.std.specs.List.Sorted.{IsNonDecreasingBy, IsPartitionPoint}
 use Rattle.std.proofs.lemmas.List.Sorted.{IsPartitionPoint-from_clause, IsPartitionedBy-leb}
-use Rattle.classify.proofs.laws.line.StartLaws.{AreCounts, counted_in, counted_out, sorted_low, sorted_high, point_in, point_out}
+use Rattle.classify.proofs.laws.line.PlaceLaws.{AreCounts, counted_in, counted_out, sorted_low, sorted_high, point_in, point_out}
 use Rattle.classify.proofs.line.starts.Starts.count_to.Goals as goal
 
 pub count_to-narrow-requires : goal.count_to-narrow-requires

@@ -2,7 +2,7 @@ use Rattle.std.proofs.Common.{◌≡◌, ◌<◌, ◌≤◌, ◌+◌, ◌-◌, �
 use Rattle.std.specs.Prelude.{slice_index}
 use Rattle.std.proofs.lemmas.List.Edits.{insert-append_right, length-insert}
 use Rattle.std.proofs.lemmas.List.Elements.{All-same}
-use Rattle.classify.proofs.laws.line.StartLaws.{wide_inserted}
+use Rattle.classify.proofs.laws.line.PlaceLaws.{wide_inserted}
 use Rattle.classify.proofs.line.starts.Starts.insert.Goals.{else-k-narrow-2-via-then-k-narrow-2+else-x-from, else-k-narrow-2-via-else-k-narrow-2}
 use Rattle.classify.proofs.line.starts.Starts.insert.Goals as goal
 

@@ -1,8 +1,8 @@
 use Rattle.std.proofs.Common.{◌<◌, ◌+◌, ◌*◌, ◌∙◌, sym, ap, arith, length, get_or, false, take, List, Bool}
-use Rattle.bits.specs.steps.RowWords.{words_of}
+use Rattle.bits.specs.steps.StoredRows.{words_of}
 use Rattle.std.proofs.lemmas.List.{get_or-drop, get_or-take, length-drop}
 use Rattle.classify.specs.steps.CommonPlaces.{bits_of}
-use Rattle.classify.proofs.laws.search.TurnedLaws.{own_wide, packed_long, turned_differ}
+use Rattle.classify.proofs.laws.search.SearchLaws.{own_wide, packed_long, turned_differ}
 use Rattle.classify.proofs.line.view.Row.get.Goals as goal
 
 pub returns : goal.returns

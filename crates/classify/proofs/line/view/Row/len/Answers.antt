@@ -1,7 +1,7 @@
 use Rattle.std.proofs.Common.{◌+◌, ap, arith, length, take, List, Bool}
 use Rattle.std.proofs.lemmas.List.{length-drop}
 use Rattle.classify.specs.steps.CommonPlaces.{bits_of}
-use Rattle.classify.proofs.laws.search.TurnedLaws.{packed_long}
+use Rattle.classify.proofs.laws.search.SearchLaws.{packed_long}
 use Rattle.classify.proofs.line.view.Row.len.Goals as goal
 
 pub returns : goal.returns

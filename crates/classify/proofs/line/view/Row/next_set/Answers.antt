@@ -1,10 +1,9 @@
 use Rattle.std.proofs.Common.{◌+◌, ◌-◌, ◌*◌, ◌∷◌, [], ◌∙◌, ap, arith, Bool, List, length, take, sym, ◌≡◌, subst, ℕ}
-use Rattle.classify.specs.search.NextMatch.{next_match}
-use Rattle.classify.specs.steps.CommonPlaces.{ArePacked, AreWide, HaveAll, bits_of}
-use Rattle.bits.specs.steps.First.{IsFirst}
-use Rattle.classify.specs.steps.Summaries.{SumUpAll}
+use Rattle.classify.specs.NextMatch.{next_match}
+use Rattle.classify.specs.steps.CommonPlaces.{ArePacked, AreWide, HaveAll, bits_of, SumUpAll}
+use Rattle.bits.specs.steps.Summaries.{IsFirst}
 use Rattle.classify.proofs.laws.search.NextLaws.{next_of_one, one_sums_up, one_wide}
-use Rattle.classify.proofs.laws.search.TurnedLaws.{packed_long}
+use Rattle.classify.proofs.laws.search.SearchLaws.{packed_long}
 use Rattle.classify.proofs.line.view.Row.next_set.Goals as goal
 
 pub first_after-requires-clause-wide : goal.first_after-requires-clause-wide

@@ -1,9 +1,8 @@
 use Rattle.std.proofs.Common.{OnOk, rules}
 use Rattle.std.proofs.lemmas.Result.{on_ok_weaker}
 use Rattle.dumps.specs.Reading.{IsLineRead}
-use Rattle.dumps.specs.ReadingViews.{read_in}
-use Rattle.dumps.specs.Views.{table_in}
-use Rattle.dumps.proofs.laws.BesideLaws.{rules_stand_beside_lines}
+use Rattle.dumps.specs.Views.{read_in, table_in}
+use Rattle.dumps.proofs.laws.ReadingLaws.{rules_stand_beside_lines}
 use Rattle.dumps.proofs.reading.dump.Reading.line.Goals as goal
 
 pub returns-in-Ok-clause-beside : goal.returns-in-Ok-clause-beside

@@ -1,6 +1,4 @@
-use Rattle.dumps.specs.Views.{table_in}
-use Rattle.dumps.specs.LineViews.{rule_line_in}
-use Rattle.dumps.specs.ReadingViews.{read_in}
+use Rattle.dumps.specs.Views.{table_in, rule_line_in, read_in}
 use Rattle.dumps.proofs.laws.ReadingLaws.{moved_refused}
 use Rattle.dumps.proofs.reading.dump.Reading.rule.Goals as goal
 

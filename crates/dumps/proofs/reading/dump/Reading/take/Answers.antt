@@ -1,6 +1,4 @@
-use Rattle.dumps.specs.Views.{table_in, refusal_in}
-use Rattle.dumps.specs.LineViews.{rule_line_in}
-use Rattle.dumps.specs.ReadingViews.{read_in, refused_in}
+use Rattle.dumps.specs.Views.{table_in, refusal_in, rule_line_in, read_in, refused_in}
 use Rattle.dumps.proofs.laws.ReadingLaws.{apart_refused}
 use Rattle.dumps.proofs.reading.dump.Reading.take.Goals as goal
 

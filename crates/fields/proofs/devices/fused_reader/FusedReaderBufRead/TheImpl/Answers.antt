@@ -4,7 +4,7 @@ use contract.Monad.{fact_i}
 use contract.Lifetimes.{Lfts}
 use borrow.Fn.Refines.{by_parts}
 use Rattle.fields.specs.contracts.devices.fused_reader.FusedReaderBufRead.fill_buf as own
-use Rattle.fields.proofs.laws.devices.RestsLaws.{third-weaken}
+use Rattle.fields.proofs.laws.RestsLaws.{third-weaken}
 use Rattle.fields.proofs.devices.fused_reader.FusedReaderBufRead.TheImpl.Goals as goal
 
 pub fill_buf-meets : goal.fill_buf-meets

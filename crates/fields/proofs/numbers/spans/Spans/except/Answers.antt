@@ -2,10 +2,9 @@ use Rattle.std.proofs.Common.{◌≡◌, sym, ◌∙◌, arith, get_or, ℕ, ap,
 use Rattle.smallvec.specs.SmallVec.{SmallVec}
 use Rattle.fields.specs.declared.numbers.spans.Interval.{Interval}
 use Rattle.fields.specs.numbers.Spans.{SpanSet, AreSpansFrom}
-use Rattle.fields.proofs.laws.numbers.ExceptLaws.{AreGapsFrom, GapAppended, StartsBehind, excepting_next, excepting_ended, gap_appended, no_room, no_start, begins_within, last_gap_appended, no_last}
+use Rattle.fields.proofs.laws.numbers.MeetLaws.{AreGapsFrom, GapAppended, StartsBehind, excepting_next, excepting_ended, gap_appended, no_room, no_start, begins_within, last_gap_appended, no_last}
 use Rattle.fields.proofs.numbers.spans.Spans.except.Goals as goal
-use Rattle.fields.proofs.numbers.spans.Spans.except.Goals.{in-Some+then-first-taken+in_ok-push, in_default, in_default-via-in-None-1, in_default-via-in-Some+else-first-taken}
-use Rattle.fields.proofs.numbers.spans.Spans.except.Goals.{then-taken-self, else-taken-self, in-Some-start+in_ok-push-2, in_default2}
+use Rattle.fields.proofs.numbers.spans.Spans.except.Goals.{in-Some+then-first-taken+in_ok-push, in_default, in_default-via-in-None-1, in_default-via-in-Some+else-first-taken, then-taken-self, else-taken-self, in-Some-start+in_ok-push-2, in_default2}
 
 pub loop-taken-preserved : goal.loop-taken-preserved
 loop-taken-preserved c =

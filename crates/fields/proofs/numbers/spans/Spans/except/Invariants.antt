@@ -1,5 +1,5 @@
 use Rattle.std.proofs.Common.{drop}
-use Rattle.fields.proofs.laws.numbers.ExceptLaws.{Excepting}
+use Rattle.fields.proofs.laws.numbers.MeetLaws.{Excepting}
 use Rattle.fields.proofs.numbers.spans.Spans.except.Given as goal
 
 abbrev pub invariant-loop-taken : goal.invariant-loop-taken

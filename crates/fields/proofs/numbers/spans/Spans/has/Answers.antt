@@ -3,7 +3,7 @@ use Rattle.std.proofs.lemmas.List.Sorted.{IsPartitionPoint-from_clause, IsPartit
 use Rattle.std.specs.List.Sorted.{IsPartitionPoint}
 use Rattle.fields.specs.declared.numbers.spans.Interval.{Interval}
 use Rattle.fields.specs.numbers.Spans.{SpanSet, AreSpansFrom, has}
-use Rattle.fields.proofs.laws.numbers.SearchLaws.{ends_rise, searched}
+use Rattle.fields.proofs.laws.numbers.SpanLaws.{ends_rise, searched}
 use Rattle.fields.proofs.numbers.spans.Spans.has.Goals as goal
 
 pub returns : goal.returns

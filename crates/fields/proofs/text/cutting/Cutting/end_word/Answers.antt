@@ -1,6 +1,6 @@
 use Rattle.std.proofs.Common.{◌≡◌, true, is_ok, [], ◌∷◌, ◌++◌, cond, length, rules, ap, ◌∙◌}
 use Rattle.fields.specs.steps.Cutting.{view_state}
-use Rattle.fields.proofs.laws.text.WordEndsLaws.{rise-ended, cut-ended}
+use Rattle.fields.proofs.laws.text.CuttingLaws.{rise-ended, cut-ended}
 use Rattle.fields.proofs.text.cutting.Cutting.end_word.Goals as goal
 
 pub invariant_of-self : goal.invariant_of-self

@@ -1,6 +1,6 @@
 use Rattle.std.proofs.Common.{◌≡◌, true, is_ok, rules}
 use Rattle.fields.specs.steps.Cutting.{view_state}
-use Rattle.fields.proofs.laws.text.WordEndsLaws.{rise-pushed, cut-joined}
+use Rattle.fields.proofs.laws.text.CuttingLaws.{rise-pushed, cut-joined}
 use Rattle.fields.proofs.text.cutting.Cutting.join_all.Goals as goal
 
 pub invariant_of-self : goal.invariant_of-self

@@ -1,4 +1,4 @@
-use Rattle.fields.proofs.laws.text.PartLaws.{goes_on, ends}
+use Rattle.fields.proofs.laws.text.LineLaws.{goes_on, ends}
 use Rattle.fields.proofs.text.tap.Tap.read_part.Goals as goal
 
 pub returns-in-Ok-More-clause-reads : goal.returns-in-Ok-More-clause-reads

@@ -1,5 +1,5 @@
 use Rattle.std.proofs.Common.{◌<◌, length, arith, rules}
-use Rattle.fields.proofs.laws.text.WordEndsLaws.{length-words_to, rise-at, words_to-at}
+use Rattle.fields.proofs.laws.text.CuttingLaws.{length-words_to, rise-at, words_to-at}
 use Rattle.fields.proofs.text.word_slice.WordSlice.get.Goals as goal
 
 pub start_of-requires : goal.start_of-requires

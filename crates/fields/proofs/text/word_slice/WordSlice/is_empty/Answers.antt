@@ -1,5 +1,5 @@
 use Rattle.std.proofs.Common.{rules}
-use Rattle.fields.proofs.laws.text.WordEndsLaws.{no_words}
+use Rattle.fields.proofs.laws.text.CuttingLaws.{no_words}
 use Rattle.fields.proofs.text.word_slice.WordSlice.is_empty.Goals as goal
 
 pub returns : goal.returns

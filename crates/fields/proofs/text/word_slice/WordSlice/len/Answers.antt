@@ -1,5 +1,5 @@
 use Rattle.std.proofs.Common.{sym}
-use Rattle.fields.proofs.laws.text.WordEndsLaws.{length-words_to}
+use Rattle.fields.proofs.laws.text.CuttingLaws.{length-words_to}
 use Rattle.fields.proofs.text.word_slice.WordSlice.len.Goals as goal
 
 pub returns : goal.returns

@@ -1,6 +1,6 @@
 use Rattle.std.proofs.Common.{◌≤◌, length, arith, rules, sym}
 use Rattle.std.proofs.lemmas.List.{take_rest, length-take-le}
-use Rattle.fields.proofs.laws.text.WordEndsLaws.{length-words_to, rise-take, rise-drop, words_to-take, words_to-drop}
+use Rattle.fields.proofs.laws.text.CuttingLaws.{length-words_to, rise-take, rise-drop, words_to-take, words_to-drop}
 use Rattle.fields.proofs.text.word_slice.WordSlice.split_at.Goals as goal
 
 pub slice_bounds-first-end : goal.slice_bounds-first-end

@@ -1,5 +1,5 @@
 use Rattle.std.proofs.Common.{arith, length}
-use Rattle.fields.proofs.laws.text.WordEndsLaws.{rise-at}
+use Rattle.fields.proofs.laws.text.CuttingLaws.{rise-at}
 use Rattle.fields.proofs.text.word_slice.WordSlice.split_first.Goals as goal
 
 pub slice_bounds-word-end : goal.slice_bounds-word-end

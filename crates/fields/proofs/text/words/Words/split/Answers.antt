@@ -1,8 +1,7 @@
 use Rattle.std.proofs.Common.{Ok, rules}
 use Rattle.fields.specs.steps.Cutting.{view_cutting}
-use Rattle.fields.proofs.laws.text.WordLaws.{words_of-law}
-use Rattle.fields.proofs.laws.text.OneLineLaws.{found_line, found_words}
-use Rattle.fields.proofs.laws.text.SplitLaws.{came, exact-found, exact-only, exact-quoting}
+use Rattle.fields.proofs.laws.text.WordLaws.{words_of-law, came, exact-found, exact-only, exact-quoting}
+use Rattle.fields.proofs.laws.text.PrintedLaws.{found_line, found_words}
 use Rattle.fields.proofs.text.words.Words.split.Goals as goal
 
 pub invariant_of-result : goal.invariant_of-result

@@ -1,7 +1,7 @@
 use Rattle.std.proofs.Common.{◌≡◌, ◌≤◌, ℕ, rules}
 use Rattle.std.proofs.lemmas.Result.{IfOk-weaker}
 use Rattle.fields.specs.numbers.Spans.{SpanSet, has}
-use Rattle.fields.specs.values.FlagTest.{flags_pass}
+use Rattle.fields.specs.values.TcpFlags.{flags_pass}
 use Rattle.fields.proofs.values.flag_test.FlagTest.allowed.Goals as goal
 
 pub returns-clause-members : goal.returns-clause-members

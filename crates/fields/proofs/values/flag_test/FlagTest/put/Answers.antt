@@ -1,5 +1,5 @@
 use Rattle.fields.specs.values.TcpFlags.{tcp_flags_text}
-use Rattle.fields.proofs.laws.values.JoinLaws.{stops-at_mark, puts-behind_mark}
+use Rattle.fields.proofs.laws.text.PutLaws.{stops-at_mark, puts-behind_mark}
 use Rattle.fields.proofs.values.flag_test.FlagTest.put.Goals as goal
 
 pub returns-in_err-put-2 : goal.returns-in_err-put-2

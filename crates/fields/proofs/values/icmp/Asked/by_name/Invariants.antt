@@ -1,6 +1,6 @@
 use Rattle.std.proofs.Common.{◌≡◌, drop}
 use Rattle.fields.specs.values.Icmp.{asked_by_name}
-use Rattle.fields.specs.steps.IcmpTable.{icmp_rows}
+use Rattle.fields.specs.steps.Tables.{icmp_rows}
 use Rattle.fields.proofs.values.icmp.Asked.by_name.Given as goal
 
 -- the answer is among the rows that are left

@@ -1,6 +1,6 @@
 use Rattle.std.proofs.Common.{◌≡◌, ◌<◌, ◌∷◌, [], Some, None, length, length-append, arith, rules, ap, sym}
 use Rattle.fields.specs.text.Cut.{cut_at}
-use Rattle.fields.specs.steps.PortItems.{item_within}
+use Rattle.fields.specs.steps.ValueParts.{item_within}
 use Rattle.fields.proofs.laws.text.CutLaws.{cut_at_only}
 use Rattle.fields.proofs.laws.values.PortListLaws.{port_list_of-is, port_count-some, item_within-room, more-none, more-item, last-none, last-item}
 use Rattle.fields.proofs.values.port_list.PortList.read.Goals as goal

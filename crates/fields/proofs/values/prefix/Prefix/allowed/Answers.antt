@@ -3,7 +3,7 @@ use Rattle.std.specs.Prelude.{nat_le}
 use Rattle.std.proofs.lemmas.Result.{IfOk-weaker}
 use Rattle.fields.specs.values.Prefix.{block_size, holds}
 use Rattle.fields.specs.numbers.Spans.{SpanSet, has}
-use Rattle.fields.proofs.laws.numbers.SetLaws.{block_within, in_block}
+use Rattle.fields.proofs.laws.numbers.SpanLaws.{block_within, in_block}
 use Rattle.fields.proofs.values.prefix.Prefix.allowed.Goals as goal
 
 pub one-requires-clause-last_within : goal.one-requires-clause-last_within

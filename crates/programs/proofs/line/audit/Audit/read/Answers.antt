@@ -2,9 +2,8 @@ use Rattle.std.proofs.Common.{Bor, ap, codes, map, refl, ◌∙◌}
 use Rattle.std.proofs.lemmas.Result.{err_from_is_err_and}
 use Rattle.clap.proofs.WalkLemmas.{first_value-rows}
 use Rattle.clap.specs.Words.{Text, found_of, is_simple_and_free}
-use Rattle.programs.specs.line.AuditLine.{LacksFile, program_app}
-use Rattle.programs.proofs.laws.LineFaults.{refusal_is_fault}
-use Rattle.programs.proofs.laws.Subcommands.{named_by_words, named_is_known, taken_words}
+use Rattle.programs.specs.AuditLine.{LacksFile, program_app}
+use Rattle.programs.proofs.CommandLine.{refusal_is_fault, named_by_words, named_is_known, taken_words}
 use Rattle.programs.proofs.line.audit.Audit.read.Goals as goal
 
 pub parse-requires : goal.parse-requires

@@ -1,6 +1,6 @@
 use Rattle.std.proofs.Common.{arith}
-use Rattle.rules.proofs.laws.boxing.BoxLaws.{box_long}
-use Rattle.rules.specs.boxing.Boxed.{IsBox}
+use Rattle.rules.proofs.laws.BoxLaws.{box_long}
+use Rattle.rules.specs.Boxed.{IsBox}
 use Rattle.questions.proofs.laws.AreaLaws.{no_numbers, numbers_from}
 use Rattle.questions.proofs.boxes.area.Area.is_empty.Goals as goal
 

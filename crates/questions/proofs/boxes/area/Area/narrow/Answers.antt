@@ -1,4 +1,4 @@
-use Rattle.rules.proofs.laws.boxing.BoxLaws.{box_with}
+use Rattle.rules.proofs.laws.BoxLaws.{box_with}
 use Rattle.std.proofs.Common.{◌∙◌}
 use Rattle.questions.proofs.laws.AreaLaws.{narrowed_to}
 use Rattle.questions.proofs.boxes.area.Area.narrow.Goals as goal

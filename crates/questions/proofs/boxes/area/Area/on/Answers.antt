@@ -1,4 +1,4 @@
-use Rattle.rules.proofs.laws.boxing.BoxLaws.{top_on}
+use Rattle.rules.proofs.laws.BoxLaws.{top_on}
 use Rattle.questions.proofs.boxes.area.Area.on.Goals as goal
 
 pub returns-clause-top : goal.returns-clause-top

@@ -1,7 +1,7 @@
 use Rattle.std.proofs.lemmas.Result.{IfOk-weaker}
 use Rattle.fields.specs.declared.numbers.field.TheConstants.{FIELDS}
-use Rattle.rules.specs.boxing.Boxed.{IsBox}
-use Rattle.questions.specs.boxes.Area.{IsBoth}
+use Rattle.rules.specs.Boxed.{IsBox}
+use Rattle.questions.specs.boxes.Boxes.{IsBoth}
 use Rattle.questions.specs.steps.Sides.{IsPart}
 use Rattle.questions.proofs.laws.AreaLaws.{within_both}
 use Rattle.questions.proofs.boxes.area.Area.within.Goals as goal

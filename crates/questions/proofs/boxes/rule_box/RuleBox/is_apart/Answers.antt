@@ -1,5 +1,5 @@
-use Rattle.questions.specs.boxes.Area.{HasNumbers}
-use Rattle.questions.specs.boxes.Meeting.{AreWholeBut}
+use Rattle.questions.specs.boxes.Boxes.{HasNumbers}
+use Rattle.questions.specs.boxes.Cut.{AreWholeBut}
 use Rattle.questions.proofs.boxes.rule_box.RuleBox.is_apart.Goals as goal
 
 pub returns-else-is_outside-clause-some : goal.returns-else-is_outside-clause-some

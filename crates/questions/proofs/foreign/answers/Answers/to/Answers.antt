@@ -1,7 +1,7 @@
 use Rattle.std.proofs.Common.{None, arith, sym, ◌∙◌}
 use Rattle.std.proofs.lemmas.List.{get_or_default, get_or_past}
 use Rattle.questions.specs.steps.Answered.{AreIndexed}
-use Rattle.questions.proofs.laws.IndexLaws.{to_answered, to_unanswered}
+use Rattle.questions.proofs.laws.NecessaryLaws.{to_answered, to_unanswered}
 use Rattle.questions.proofs.foreign.answers.Answers.to.Goals as goal
 
 pub returns-clause-answered : goal.returns-clause-answered

@@ -4,7 +4,7 @@ use Rattle.std.proofs.lemmas.Fn.{filter_same}
 use Rattle.std.proofs.lemmas.List.{get_or_past}
 use Rattle.questions.specs.declared.foreign.answers.Answer.{Answer}
 use Rattle.questions.specs.steps.Answered.{AreIndexed, answer_in, answers_but, others_than}
-use Rattle.questions.proofs.laws.IndexLaws.{index_less, set_none}
+use Rattle.questions.proofs.laws.NecessaryLaws.{index_less, set_none}
 use Rattle.questions.proofs.foreign.answers.Answers.without.Goals.{After-retain, then-condition-len, else-condition-len}
 use Rattle.questions.proofs.foreign.answers.Answers.without.Goals as goal
 

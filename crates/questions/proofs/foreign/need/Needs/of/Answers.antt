@@ -1,4 +1,4 @@
-use Rattle.questions.proofs.laws.NeedlessLaws.{told_free}
+use Rattle.questions.proofs.laws.PlainLaws.{told_free}
 use Rattle.questions.proofs.foreign.need.Needs.of.Goals as goal
 
 pub invariant_of-result : goal.invariant_of-result

@@ -1,7 +1,7 @@
 use Rattle.std.proofs.Common.{◌≡◌, true, false, refl, arith}
 use Rattle.fields.specs.declared.numbers.field.Field.{Field}
-use Rattle.classify.specs.classifier.Classifier.{box_allows}
-use Rattle.questions.specs.steps.Chosen.{carries_field}
+use Rattle.classify.specs.Classifier.{box_allows}
+use Rattle.questions.specs.steps.Sampled.{carries_field}
 use Rattle.questions.proofs.laws.ChoiceLaws.{each_field}
 use Rattle.questions.proofs.sampling.choice.Kind.leaves_zeros.Goals as goal
 

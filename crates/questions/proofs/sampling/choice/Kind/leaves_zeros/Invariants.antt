@@ -1,8 +1,8 @@
 use Rattle.std.proofs.Common.{◌≡◌, ℕ, ◌<◌, false, true, get_or}
 use Rattle.fields.specs.declared.numbers.field.Field.{Field}
 use Rattle.fields.specs.numbers.Field.{all_fields}
-use Rattle.classify.specs.classifier.Classifier.{box_allows}
-use Rattle.questions.specs.steps.Chosen.{carries_field}
+use Rattle.classify.specs.Classifier.{box_allows}
+use Rattle.questions.specs.steps.Sampled.{carries_field}
 use Rattle.questions.proofs.sampling.choice.Kind.leaves_zeros.Given as goal
 
 abbrev pub invariant-loop-field : goal.invariant-loop-field

@@ -1,6 +1,6 @@
 use Rattle.std.proofs.Common.{◌≡◌, ◌∙◌, ap, sym, true, false}
 use Rattle.std.specs.Prelude.{◌&&◌}
-use Rattle.rules.specs.boxing.Boxed.{IsBoxOf}
+use Rattle.rules.specs.Boxed.{IsBoxOf}
 use Rattle.rules.specs.rule.Allows.{allows_each}
 use Rattle.rules.specs.rule.Crossing.{cross}
 use Rattle.questions.proofs.laws.AreaLaws.{box_of_rule}

@@ -1,7 +1,7 @@
 use Rattle.std.proofs.Common.{[], ◌∷◌, refl}
 use Rattle.questions.proofs.laws.WaitLaws.{task_moves}
 use Rattle.questions.specs.declared.walking.task.Task.{Task}
-use Rattle.questions.specs.steps.Onward.{IsPut}
+use Rattle.questions.specs.steps.Taken.{IsPut}
 use Rattle.std.proofs.lemmas.List.Elements.{All-cons, All-nil, All-push}
 use Rattle.questions.specs.Foreign.{AreAsked}
 use Rattle.questions.proofs.walking.front.Front.add_task.Goals as goal

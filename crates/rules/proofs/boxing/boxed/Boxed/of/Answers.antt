@@ -1,7 +1,7 @@
 use Rattle.std.proofs.Common.{◌≡◌, length, ap, ◌∙◌, rules}
 use Rattle.fields.specs.declared.numbers.field.TheConstants.{FIELDS}
 use Rattle.rules.specs.steps.Views.{view_spec, view_matches}
-use Rattle.rules.proofs.laws.boxing.NarrowLaws.{box_of_whole, sets_of_whole, box_of_rule}
+use Rattle.rules.proofs.laws.BoxLaws.{box_of_whole, sets_of_whole, box_of_rule}
 use Rattle.rules.proofs.boxing.boxed.Boxed.of.Goals as goal
 
 pub narrow_all-requires : goal.narrow_all-requires

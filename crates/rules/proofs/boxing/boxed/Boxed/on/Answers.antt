@@ -1,4 +1,4 @@
-use Rattle.rules.proofs.laws.boxing.BoxLaws.{top_on}
+use Rattle.rules.proofs.laws.BoxLaws.{top_on}
 use Rattle.rules.proofs.boxing.boxed.Boxed.on.Goals as goal
 
 pub returns-clause-top : goal.returns-clause-top

@@ -1,7 +1,7 @@
 use Rattle.std.proofs.Common.{ℕ, List, not, sym}
 use Rattle.rules.specs.options.Values.{both_ports_in}
 use Rattle.rules.specs.rule.Crossing.{has_either_port, option_value_crosses, ports_cross}
-use Rattle.rules.proofs.laws.rule.PortLaws.{says_alike}
+use Rattle.rules.proofs.laws.rule.CrossLaws.{says_alike}
 use Rattle.rules.proofs.options.option_value.OptionValue.says.Goals as goal
 
 pub returns-then-self-clause-says : goal.returns-then-self-clause-says

@@ -1,5 +1,5 @@
 use Rattle.std.proofs.Common.{◌≡◌, take}
-use Rattle.rulesets.specs.conditions.OpenConditions.{open_among}
+use Rattle.rulesets.specs.OpenConditions.{open_among}
 use Rattle.rulesets.proofs.conditions.open_conditions.OpenConditions.shown.Given as goal
 
 abbrev pub invariant-loop-answer : goal.invariant-loop-answer

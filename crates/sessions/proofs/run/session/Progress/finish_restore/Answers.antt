@@ -1,5 +1,5 @@
 use Rattle.sessions.specs.line.Outcome.{restore_end}
-use Rattle.sessions.proofs.laws.run.EndLaws.{restore_ends}
+use Rattle.sessions.proofs.laws.run.WholeLaws.{restore_ends}
 use Rattle.sessions.proofs.run.session.Progress.finish_restore.Goals as goal
 
 pub returns-clause-ends : goal.returns-clause-ends

@@ -1,5 +1,5 @@
 use Rattle.sessions.specs.line.Outcome.{last_outcome}
-use Rattle.sessions.proofs.laws.run.EndLaws.{session_ends}
+use Rattle.sessions.proofs.laws.run.WholeLaws.{session_ends}
 use Rattle.sessions.proofs.run.session.Progress.finish_session.Goals as goal
 
 pub returns-clause-ends : goal.returns-clause-ends

@@ -1,7 +1,7 @@
 use Rattle.std.proofs.Common.{rules}
 use Rattle.fields.specs.text.Tap.{Wrote}
 use Rattle.sessions.specs.line.Outcome.{reply_text}
-use Rattle.sessions.proofs.laws.run.ExecuteLaws.{puts_on}
+use Rattle.sessions.proofs.laws.run.ReachedLaws.{puts_on}
 use Rattle.sessions.proofs.run.session.Progress.report_last.Goals as goal
 
 pub returns-clause-puts : goal.returns-clause-puts

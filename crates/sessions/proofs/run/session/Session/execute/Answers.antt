@@ -1,5 +1,5 @@
 use Rattle.std.proofs.Common.{rules}
-use Rattle.sessions.proofs.laws.run.ExecuteLaws.{executed, index_of}
+use Rattle.sessions.proofs.laws.run.ReachedLaws.{executed, index_of}
 use Rattle.sessions.proofs.run.session.Session.execute.Goals as goal
 
 pub report-requires : goal.report-requires

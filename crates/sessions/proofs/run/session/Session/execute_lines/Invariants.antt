@@ -1,8 +1,8 @@
 use Rattle.std.proofs.Common.{◌≡◌, ◌+◌, ◌≤◌, [], false}
 use Rattle.fields.specs.text.Tap.{has_failed, is_late, turns_left}
 use Rattle.sessions.specs.line.Outcome.{has_ended}
-use Rattle.sessions.specs.run.Console.{HasSameTaps, reader, writer}
 use Rattle.sessions.specs.run.Views.{moment_on}
+use Rattle.sessions.specs.run.Console.{HasSameTaps, reader, writer}
 use Rattle.sessions.specs.steps.Lines.{state_of}
 use Rattle.sessions.proofs.laws.run.ReachedLaws.{Reached}
 use Rattle.sessions.proofs.run.session.Session.execute_lines.Given as goal

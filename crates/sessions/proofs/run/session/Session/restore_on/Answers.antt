@@ -1,7 +1,7 @@
 use Rattle.fields.specs.text.Tap.{known}
 use Rattle.sessions.specs.run.Console.{reader, writer}
 use Rattle.sessions.specs.run.Session.{OfRestore, restore_finish}
-use Rattle.sessions.proofs.laws.run.EndLaws.{ran_to_end, runs_to}
+use Rattle.sessions.proofs.laws.run.WholeLaws.{ran_to_end, runs_to}
 use Rattle.sessions.proofs.run.session.Session.restore_on.Goals as goal
 
 pub returns-in-Ok-clause-runs : goal.returns-in-Ok-clause-runs

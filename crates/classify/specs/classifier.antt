@@ -1,3 +1,0 @@
-pub mod Classifier
-pub mod Laws
-pub mod OfRules

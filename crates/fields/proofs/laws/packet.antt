@@ -1,3 +1,0 @@
-pub mod GivenLaws
-pub mod PacketLaws
-mod PacketRows

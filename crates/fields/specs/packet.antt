@@ -1,3 +1,0 @@
-pub mod Hook
-pub mod Keys
-pub mod Packet

@@ -1,3 +1,0 @@
-pub mod LineFaults
-pub mod Loads
-pub mod Subcommands

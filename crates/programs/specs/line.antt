@@ -1,3 +1,0 @@
-pub mod AuditLine
-pub mod JobLine
-pub mod Line

@@ -1,3 +1,0 @@
-pub mod BoxLaws
-pub mod MetLaws
-pub mod NarrowLaws

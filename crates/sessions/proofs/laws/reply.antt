@@ -1,5 +1,0 @@
-pub mod HexadecimalLaws
-pub mod LineRows
-pub mod NumberLaws
-pub mod WalkRows
-pub mod WalkedLaws
