@@ -4,8 +4,9 @@ beside those of all assignments, taken one by one. `--times N` draws N times as 
 A ruleset has up to eleven rules, in INPUT and in one chain to which they jump or go; on each field one packet stands for all that no rule tells from it
 (tests/answers/asked). Two of three rules need one condition or two, some of them that it doesn't hold, and a few both; there are up to five, and in
 every fiftieth ruleset ten.
-Every twentieth has 30 to 200 rules in four or five chains, and three conditions, which one rule of three needs. Under an assignment a rule
-matches what it matches by itself, if all holds that it needs.
+Every twentieth has 30 to 200 rules in four or five chains, and three conditions, which one rule of three needs. Every tenth is a list, as of hosts by their
+hardware addresses or of sets of banned ones: up to seven rules that match the same packets, each of which needs a condition of its own, and give a
+verdict or jump to a chain that returns. Under an assignment a rule matches what it matches by itself, if all holds that it needs.
 
 - `dead`: just the rules that under no assignment any of these packets comes to;
 - the reason why one is dead: no jumps lead to its chain; none of these packets is meant for it, and matches it under an assignment by which all holds
@@ -35,6 +36,8 @@ RULESETS = 60
 FEW, MANY, OFTEN = 5, 10, 50
 # How many there are in a large ruleset, which is one of so many.
 LARGE, SELDOM = 3, 20
+# How many conditions a list has at most, which is one ruleset of so many.
+LISTED, LISTS = 7, 10
 DUE = ("dead", "dead by a condition", "taken", "excluded", "unreached", "unmatched by its needs", "live", "live by answers",
        "live by a condition that fails", "same", "differs", "differs by answers")
 DECIDE, STAY, RETURN = "decide", "stay", "return"
@@ -132,6 +135,10 @@ def drawn(draw, at):
         ruleset = large.ruleset(packets_of(lines))
         return None, ruleset, lines, LARGE, needs_drawn(draw, ruleset, LARGE, (0, 0, 1))
     small = Small(draw)
+    if at % LISTS == LISTS - 4:
+        conditions, ruleset = small.listed(LISTED)
+        needs = {name: [(number, draw.random() < 0.8)] if number < conditions else [] for number, name in enumerate(ruleset.named())}
+        return small, ruleset, [line for line, _ in small.packets()], conditions, needs
     ruleset, conditions = small.ruleset(), MANY if at % OFTEN == OFTEN - 2 else draw.randint(1, FEW)
     return small, ruleset, [line for line, _ in small.packets()], conditions, needs_drawn(draw, ruleset, conditions, (0, 1, 2))
 

@@ -52,15 +52,15 @@ def spelling_rows():
     yield Row("lines that can't fit", *on([line for (line,), *_ in left], NAMES), b"", 1, said)
 
 
-# Rules that decide nothing: what is written in their place, and what is said to be taken out.
+# Rules that decide nothing: what is written in their place, what is said, and what is said to be taken out. And rules that decide: the text and the name
+# of what is to be assumed.
 GONE = b"the rule gives no verdict, taken out: "
-QUIET = rows_in("commands/quiet.rows", "><!-")
+TARGETS = rows_in("commands/targets.rows", "><!-=")
+QUIET, LOUD = ([row for row in TARGETS if bool(row[-1]) is decides] for decides in (False, True))
 # What is taken out of them, in the words of the first line.
 DROPPED = (b"-j TCPMSS", b"-j MARK", b"-j NFLOG", b"-j CONNMARK", b"-j SET", b"-m limit", b"--log-macdecode", b"-m recent", b"-m mac",
            b"-m owner", b"-m ah", b"-m hashlimit", b"-m set", b"-m string", b"-m connlimit", b"-m time", b"-m policy", b"-m statistic",
            b"-m physdev", b"-m connbytes", b"-m addrtype", b"--ctproto", b"--tcp-option", b"-m ndpi", b"-m label", b"-m shape", b"-m nothing")
-# Rules that decide, and the name and text of what is to be assumed.
-LOUD = rows_in("commands/loud.rows", ">=!")
 
 
 def asked(name, text):
@@ -70,10 +70,10 @@ def asked(name, text):
 def quiet_rows():
     """What decides nothing goes, and what decides is asked for."""
     chains = [b":further -", b":leads -"]
-    said = [note(2 + at, text) for at, (*_, notes, gone) in enumerate(QUIET) for text in [*notes, *(GONE + words for words in gone)]]
+    said = [note(2 + at, text) for at, (*_, notes, gone, _) in enumerate(QUIET) for text in [*notes, *(GONE + words for words in gone)]]
     yield Row("rules that decide nothing", *on(chains + [rule for (rule,), *_ in QUIET]),
               head([], DROPPED) + dump(chains + [written for _, (written,), *_ in QUIET]), 0, b"".join(said))
-    said = [fault(2 + at, asked(name, text)) for at, (_, (name,), (text,)) in enumerate(LOUD)]
+    said = [fault(2 + at, asked(name, text)) for at, (_, _, (text,), _, (name,)) in enumerate(LOUD)]
     yield Row("rules that decide", *on(chains + [rule for (rule,), *_ in LOUD]), b"", 2, b"".join(said))
 
 

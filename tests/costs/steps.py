@@ -1,8 +1,8 @@
 """`python3 -m tests.costs.steps AUDIT [FILE..]`: what questions about all packets take, asked of rulesets by iptaudit, which is AUDIT. For each FILE, or
-where none is given 1,024 rules of each of three kinds, it prints as a table: how many rules there are, and how many are dead; the least number of
-steps (`--steps`), to one in a hundred, with which `dead` leaves none unclear, and with which `compare` of the ruleset with one that has a rule
-more, for one source and one port, which decides nothing, leaves no chain unclear; and the processor's time and the memory of that run. Where a
-million steps don't do, it says what they leave. A file that isn't restored is passed over, and said to be.
+where none is given 1,024 rules of each of three kinds and the files of ASKED (tests/drawn/workloads), it prints as a table: how many rules there are, and
+how many are dead; the least number of steps (`--steps`), to one in a hundred, with which `dead` leaves none unclear, and with which `compare` of the
+ruleset with one that has a rule more, for one source and one port, which decides nothing, leaves no chain unclear; and the processor's time and the
+memory of that run. Where a million steps don't do, it says what they leave. A file that isn't restored is passed over, and said to be.
 """
 
 import os
@@ -15,6 +15,9 @@ import tempfile
 from tests.drawn import workloads
 
 MOST = 1_000_000
+# How large each file of ASKED is.
+SIZES = {"blocked hosts, then a rule": 1414, "hosts by hardware address": 256, "sets of banned hosts": 64, "jumps on conditions": 64,
+         "chains of networks": 16, "both ports": 128}
 
 
 def asked(words):
@@ -72,6 +75,14 @@ def row(texts):
     print("| " + " | ".join(texts) + " |", flush=True)
 
 
+def drawn():
+    """The names of the rulesets that are asked about where none is named, and their files."""
+    for kind in workloads.KINDS:
+        yield kind, workloads.restore(workloads.of_kind(kind, 1024)[0])
+    for name, made in workloads.ASKED.items():
+        yield name, made(SIZES[name])
+
+
 def main():
     if len(sys.argv) < 2 or not os.access(sys.argv[1], os.X_OK):
         print("steps: call it as python3 -m tests.costs.steps AUDIT [FILE..], with a program that can be run", file=sys.stderr)
@@ -81,9 +92,9 @@ def main():
     row(["---"] * 9)
     with tempfile.TemporaryDirectory() as folder:
         files = sys.argv[2:]
-        for kind in workloads.KINDS if not files else ():
-            files.append(os.path.join(folder, kind))
-            pathlib.Path(files[-1]).write_text(workloads.restore(workloads.of_kind(kind, 1024)[0]), encoding="ascii")
+        for name, text in drawn() if not files else ():
+            files.append(os.path.join(folder, name))
+            pathlib.Path(files[-1]).write_text(text, encoding="ascii")
         for file in files:
             if asked([audit, "dead", "--steps", "0", file])[0] == 2:
                 print(f"steps: {file} isn't restored: passed over", file=sys.stderr)

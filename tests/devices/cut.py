@@ -15,8 +15,8 @@ Then each case, but for those of more than 3,000 bytes, is damaged at some place
 a fixed seed draws it. Eight damaged sessions after one another make an input.
 
 The short cases are those in which each kind of line and each command comes once, as far as they do in cases of 140 bytes at most.
-`--cases WORD` takes the cases whose file or name has the word. How a reader or writer is called otherwise, as one that is interrupted, `devices`
-shows.
+`--cases WORD` takes the cases whose file or name has the word; `--quick` cuts at every seventh byte. How a reader or writer is called otherwise, as one
+that is interrupted, `devices` shows.
 """
 
 import functools
@@ -36,6 +36,8 @@ from tests.shared.played import Told, chosen, coarse_kinds_of, plays_of, size_of
 
 # How many bytes cases have that are cut, and that are damaged; how many damaged ones make an input; of how many bytes parts are.
 SHORT, LONG, DAMAGED, PIECE = 140, 3000, 8, 7
+# How many bytes lie between two cuts where the program is slow.
+STRIDE = 7
 PARTS = 8
 INPUT_FAILED, OUTPUT_FAILED = b"iptsim: input failed\n", b"iptsim: output failed\n"
 # Bytes that separate words and lines, or begin them, or none of these.
@@ -113,9 +115,9 @@ def written_due(words, parts, most):
     return (output[:most], OUTPUT_FAILED, 1, 0) if len(output) > most else (output, b"", reading.model.status, 0)
 
 
-def cut_input(devices, play):
+def cut_input(devices, play, stride):
     words, data = play.words, play.data
-    for count in range(len(data)):
+    for count in range(0, len(data), stride):
         head, tail = data[:count], data[count:]
         compare(f"the first {count} bytes", play, head, devices.run(words, input=head), answer(words, head))
         compare(f"a read fails after {count} bytes", play, head, devices.read_fails(words, head), cut_due(words, head))
@@ -123,14 +125,14 @@ def cut_input(devices, play):
         compare(f"in two parts, of {count} bytes and the others", play, data, devices.in_parts(words, parts), in_parts_due(words, parts))
 
 
-def cut_output(devices, play):
+def cut_output(devices, play, stride):
     words, data = play.words, play.data
     lines = re.findall(rb"[^\n]*\n|[^\n]+", data)
     for about, parts in (("line by line", lines), ("byte by byte", [data[at : at + 1] for at in range(len(data))])):
         compare(about, play, data, devices.in_parts(words, parts), in_parts_due(words, parts))
     output, errors, status = answer(words, data)
     pieces = [data[at : at + PIECE] for at in range(0, len(data), PIECE)]
-    for most in range(len(output) + 1):
+    for most in range(0, len(output) + 1, stride):
         parts = pieces if most % 2 else lines
         compare(f"an output of {most} bytes", play, data, devices.write_fails(words, parts, most), written_due(words, parts, most))
     due = (OUTPUT_FAILED, 1) if output else (errors, status)
@@ -164,11 +166,11 @@ def plays(words):
 
 
 @pytest.mark.parametrize("part", range(PARTS))
-def test_cut(part, iptsim, cases):
-    devices = Devices(iptsim.path)
+def test_cut(part, iptsim, cases, pytestconfig):
+    devices, stride = Devices(iptsim.path), STRIDE if pytestconfig.getoption("quick") else 1
     for play in plays(cases)[0][part::PARTS]:
-        cut_input(devices, play)
-        cut_output(devices, play)
+        cut_input(devices, play, stride)
+        cut_output(devices, play, stride)
 
 
 @pytest.mark.parametrize("part", range(PARTS))

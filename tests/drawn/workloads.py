@@ -7,6 +7,7 @@
 - both, which `tests/costs/costs` leaves out: each rule asks for two ports of its own, as the source port or the destination port.
 
 `tests/costs/costs` has other files, too (SHAPES): with `count` rules in INPUT, and in other chains where that is said, they ask most of one thing.
+So do those that `tests/costs/steps` has (ASKED), most of whose rules need conditions that iptsim doesn't take; they are printed alone.
 
 Printed with `-first`, `-last` or `-none` after its name, `distinct` and `both` have the packets of one rule alone, or of none.
 """
@@ -159,8 +160,45 @@ SHAPES = {
 }
 
 
+def banned(count):
+    """So many sets of banned hosts, each with a chain that refuses one host more, and returns."""
+    chains = {f"f2b-{k}": [f"-s {host} -j REJECT", "-j RETURN"] for k, host in enumerate(hosts(count))}
+    jumps = [f"-p tcp -m multiport --dports {22 if k % 2 else 80} -m set --match-set {chain} src -j {chain}" for k, chain in enumerate(chains)]
+    return restore([*jumps, "-p tcp -m tcp --dport 22 -j ACCEPT", "-p tcp -m tcp --dport 22 -j DROP"], chains)
+
+
+def conditional(count):
+    """So many jumps, each on two conditions, to chains that drop one host and accept one port."""
+    chains = {f"k{k}": [f"-s {host} -j DROP", f"-p tcp -m tcp --dport {k + 1} -j ACCEPT"] for k, host in enumerate(hosts(count))}
+    jumps = [f"-m addrtype --src-type LOCAL -m statistic --mode nth --every {k + 2} --packet 0 -j {chain}" for k, chain in enumerate(chains)]
+    return restore([*jumps, "-j ACCEPT", "-j DROP"], chains)
+
+
+def networks(count):
+    """So many chains of fifty rules, each for a network, for its hosts and their ports."""
+    dice, chains = Lots(5), {}
+    for k in range(count):
+        ends = [(address(0x0A000000 + 256 * k + dice.randrange(256)), dice.choice((22, 80, 443, dice.randrange(1, 65536)))) for _ in range(50)]
+        chains[f"net{k}"] = [f"-d {host} -p tcp -m tcp --dport {port} -j {dice.choice(('ACCEPT', 'DROP'))}" for host, port in ends]
+    return restore([f"-d {address(0x0A000000 + 256 * k)}/24 -j {chain}" for k, chain in enumerate(chains)], chains)
+
+
+# Files of which `dead` and `compare` are asked: a name, and the file for a number.
+ASKED = {
+    "blocked hosts, then a rule": lambda count: restore([*(f"-s {host} -j DROP" for host in hosts(count)), "-p tcp -m tcp --dport 22 -j ACCEPT"]),
+    "hosts by hardware address": lambda count: restore(["-i eth1 -j macs", "-j DROP"], {"macs": [
+        f"-m mac --mac-source 00:11:22:33:{k >> 8:02X}:{k & 255:02X} -j ACCEPT" for k in range(count)]}),
+    "sets of banned hosts": banned,
+    "jumps on conditions": conditional,
+    "chains of networks": networks,
+    "both ports": lambda count: restore([f"-p tcp -m multiport --ports {k},{20000 + 3 * k}:{20300 + 3 * k} -j ACCEPT" for k in range(count)]),
+}
+
+
 def printed(name, count):
-    """So many rules of a kind, and packets, as lines of which the first names them."""
+    """So many rules of a kind, and packets, as lines of which the first names them; or a file of ASKED, as it is."""
+    if name in ASKED:
+        return ASKED[name](count)
     kind, _, match = name.partition("-")
     rules, packets = of_kind(kind, count)
     dice = Lots(11)

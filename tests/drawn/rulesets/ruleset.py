@@ -5,10 +5,17 @@ import collections
 import itertools
 import re
 
-from tests.shared.numbering import numbered
-
 # The bytes of interfaces' names.
 LEGAL = "".join(chr(byte) for byte in range(33, 127) if chr(byte) not in '/"\\\'#+!')
+
+
+def numbered(rules):
+    """Each rule, `-A CHAIN ..`, after its chain and its number there, from 1."""
+    counts = collections.Counter()
+    for rule in rules:
+        chain = rule.split()[1]
+        counts[chain] += 1
+        yield chain, counts[chain], rule
 
 
 def target_of(rule):

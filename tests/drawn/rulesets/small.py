@@ -49,6 +49,14 @@ class Small:
         rules = [self.rule("INPUT", (*ends, "-j a", "-g a", "-j a")) for _ in range(self.draw.randint(1, 6))]
         return Ruleset("DROP", ["a"], rules + [self.rule("a", ends) for _ in range(self.draw.randint(0, 5))])
 
+    def listed(self, most):
+        """Up to so many rules that match the same packets, and give a verdict or jump to a chain that drops one network and returns; then rules that
+        match all. How many are in the list, and the ruleset."""
+        matching, count = " ".join(self.matching()), self.draw.randint(2, most)
+        ends = self.draw.choice((("-j ACCEPT", "-j DROP"), ("-j a",), ("-j a", "-j ACCEPT", "-j RETURN", "-g a")))
+        rules = [" ".join(f"-A INPUT {matching} {self.draw.choice(ends)}".split()) for _ in range(count)]
+        return count, Ruleset("DROP", ["a"], rules + ["-A INPUT -j ACCEPT", "-A INPUT -j DROP", "-A a -s 10.0.0.0/8 -j DROP", "-A a -j RETURN"])
+
     def edited(self, ruleset):
         """The ruleset with one rule left out, one put in, or two beside each other turned about."""
         rules, at = list(ruleset.rules), self.draw.randrange(len(ruleset.rules))

@@ -2,8 +2,8 @@
 its answers are written.
 """
 
+from tests.drawn.rulesets.ruleset import numbered
 from tests.shared import read
-from tests.shared.numbering import numbered
 from tests.shared.row_files import rows_in
 
 POLICIES = b"*filter\n:INPUT %s [0:0]\n:FORWARD ACCEPT [0:0]\n:OUTPUT ACCEPT [0:0]\n"
