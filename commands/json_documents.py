@@ -49,6 +49,13 @@ def walk_object(answers, walk, asked):
     return {**found, "invalid_at": step_object(at)} if at else found
 
 
+def cases_object(answers, line, walks):
+    """A packet with walks that iptaudit tells, each with the answers that it needs and the rule that decides; or with none, where they aren't found out."""
+    cases = [{"answers": [text(answer) for answer in walk.answers], **{"rule": rule_object(step, answers.rule(step)) for step in walk.steps},
+              "verdict": verdict_object(walk.verdict)} for walk in walks]
+    return {"packet": text(line), **({"cases": cases} if cases else {"unclear": True})}
+
+
 def error_objects(complaints):
     found = [{"message": text(each.text), "file": each.file and text(each.file), "line": each.line} for each in complaints]
     return {"errors": [{key: value for key, value in each.items() if value is not None} for each in found]}

@@ -13,6 +13,9 @@ from commands.places import called, program_call
 FAULT = re.compile(rb"line ([0-9]+): (([A-Z]+[0-9]+) .*)")
 QUOTED_OR_PLAIN = re.compile(rb'(?:"((?:[^"\\]|\\.)*)"|([^ \t"]+))(?=[ \t]|\Z)', re.DOTALL)
 
+# How the programs end where they did what they were asked, or refused it. Of iptaudit 3 says that something is unclear.
+STATUSES = {"iptsim": (0, 1, 2), "iptaudit": (0, 1, 2, 3)}
+
 Fault = collections.namedtuple("Fault", "code text")
 Word = collections.namedtuple("Word", "start end value")
 
@@ -70,16 +73,22 @@ def words_of(line):
         at = found.end()
 
 
-def run(words, data, name="iptsim"):
-    """The program's status and what it writes to standard output, with these words and the data. Its messages go to standard error."""
+def ended(words, data, name, errors=None):
+    """How a program ended with these words and the data. Its messages go to standard error, or are kept where that is subprocess.PIPE."""
     call = program_call(name)
     try:
-        ended = subprocess.run([*call, *words], input=data, stdout=subprocess.PIPE, check=False)
+        found = subprocess.run([*call, *words], input=data, stdout=subprocess.PIPE, stderr=errors, check=False)
     except OSError as error:
         raise Trouble(f"cannot run {call[0]}: {error.strerror}; {name.upper()} has to name the program") from error
-    if ended.returncode not in (0, 1, 2):
-        raise Trouble(f"{call[0]} ended with status {ended.returncode}")
-    return ended.returncode, ended.stdout
+    if found.returncode not in STATUSES[name]:
+        raise Trouble(f"{call[0]} ended with status {found.returncode}")
+    return found
+
+
+def run(words, data, name="iptsim"):
+    """The program's status and what it writes to standard output, with these words and the data. Its messages go to standard error."""
+    found = ended(words, data, name)
+    return found.returncode, found.stdout
 
 
 class Session:

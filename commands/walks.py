@@ -1,31 +1,51 @@
-"""What bin/expect and bin/explain share: a ruleset as the program lists it, and the walks of packets through it."""
+"""What bin/expect and bin/explain share: a ruleset as iptsim lists it, and the walks of packets through it; and those through a ruleset that iptsim refuses,
+whose rules need conditions, as iptaudit tells them."""
 
 import collections
+import functools
+import json
 import os
 import re
+import subprocess
+import tempfile
 
 from commands import json_documents
 from commands.at_fault import explained
 from commands.kinds import for_ipv4
 from commands.places import command
-from commands.program import Session, complain, lines_of, read, words_of
+from commands.program import Session, complain, ended, lines_of, read, words_of
 
 REPLY = re.compile(rb"verdict (\S+)(?: (\S+))??(?: by (rule|policy))?")
 STEP = re.compile(rb"(\S+) ([0-9]+)")
 WITHOUT_VALUE = (b"!", b"-f", b"--log-tcp-sequence", b"--log-tcp-options", b"--log-ip-options", b"--log-uid")
 TOO_LONG = b"more than 65536 rules, which are not listed"
+UNCLEAR = b"unclear within the steps that iptaudit may take: --steps N allows more"
+# The options that are handed on to iptaudit: what each takes, and its help.
+HANDED_ON = {"--when": ("CONDITION", "a condition that holds, or after '! ' doesn't, as iptaudit takes it"),
+             "--local": ("ADDRESSES", "the machine's addresses, as iptaudit takes them"),
+             "--unknown": ("MATCH", "a match that iptaudit is to read as a condition"),
+             "--steps": ("N", "how many steps iptaudit may take for a packet")}
+# The first line of what iptaudit says of an input: that of a file or of the packets, or another sentence.
+SAID = re.compile(rb"(?:line ([0-9]+): |iptaudit: )?(.*)")
 
 # `by` is b"policy", b"rule", a step, or None; a step is a chain and a number. What is due may have None for any.
 Verdict = collections.namedtuple("Verdict", "name kind by")
 Rule = collections.namedtuple("Rule", "text on_states jump goto")
-# A packet line, the steps of its walk, and the verdict.
-Walk = collections.namedtuple("Walk", "line steps verdict")
+# A packet line, the steps of its walk, and the verdict. Of a walk that iptaudit tells, the texts of the answers that it needs; of its steps the last alone
+# is known, if a rule decides.
+Walk = collections.namedtuple("Walk", "line steps verdict answers", defaults=(None,))
+# Packets, each with its number, of which iptaudit is asked with more words; the number is that of the line in which these begin, if there are any.
+Group = collections.namedtuple("Group", "words packets number")
 # What is wrong with an input: the whole message, and where it is known the file and the number of the line.
 Complaint = collections.namedtuple("Complaint", "text file line", defaults=(None, None))
 
 
 class Unfit(Exception):
     """Why an input can't be used, as complaints."""
+
+
+class Refused(Unfit):
+    """Why iptsim refuses a ruleset."""
 
 
 def bail_out(trouble, is_json):
@@ -36,6 +56,17 @@ def bail_out(trouble, is_json):
     if is_json:
         json_documents.write(json_documents.error_objects(complaints))
     return [each.text for each in complaints], status
+
+
+def add_options(reader):
+    """Has a parser of words take the options that are handed on."""
+    for option, (value, about) in HANDED_ON.items():
+        reader.add_argument(option, metavar=value, action="append", default=[], help=about)
+
+
+def handed_on(words):
+    """The words that are handed on, of those that were parsed."""
+    return [word for option in HANDED_ON for value in getattr(words, option[2:]) for word in (option, value)]
 
 
 def packet_lines(lines):
@@ -91,12 +122,25 @@ def read_walks(lines, packets):
             steps = []
 
 
+@functools.lru_cache(maxsize=1)
+def rule_lines(name):
+    """The lines of a ruleset's file, which is read once, since it may be standard input."""
+    return for_ipv4(lines_of(read(name)))
+
+
+def stop_at_refused(session, asked, place, file, chains):
+    """Complains of packet lines that were refused: they are asked as the session's lines at some places."""
+    refused = [(number, os.fsdecode(explained(packet, session.fault(places).text, chains))) for number, packet, places in asked if session.fault(places)]
+    if refused:
+        raise Unfit([Complaint(f"{place}{number}: {why}", file, number) for number, why in refused])
+
+
 class Answers:
     """What the program says of a ruleset: its chains, their rules, and the walk of each of the packet lines, which have their numbers. What is said
     of one that is refused begins with `place` and its number; `file` is where it stands, if it is a file."""
 
     def __init__(self, name, packets, place, file=None):
-        lines = for_ipv4(lines_of(read(name)))
+        lines = rule_lines(name)
         session = Session()
         restore = session.restore(lines)
         session.ask(b"iptables -S")
@@ -105,15 +149,16 @@ class Answers:
         if session.fault(restore):
             number = min(next(place for place in restore if place in session.faults) - 1, len(lines))
             text = f"{name} doesn't load: line {number}: {session.fault(restore).text.decode()}"
-            raise Unfit([Complaint(text, name, number)])
+            raise Refused([Complaint(text, name, number)])
         if not has_filter(lines):
             raise Unfit([Complaint(f"{name} has no section *filter that iptsim reads: {command('check')} says why", name)])
         self.read_listing(written)
-        refused = [(number, os.fsdecode(explained(packet, session.fault(places).text, self.chains)))
-                   for number, packet, places in asked if session.fault(places)]
-        if refused:
-            raise Unfit([Complaint(f"{place}{number}: {why}", file, number) for number, why in refused])
+        stop_at_refused(session, asked, place, file, self.chains)
         self.walks = list(read_walks(written, [packet for _, packet in packets]))
+
+    def of_packets(self):
+        """The walks of each packet: one."""
+        return [[walk] for walk in self.walks]
 
     def read_listing(self, lines):
         self.chains, self.rules = [], {}
@@ -161,3 +206,78 @@ class Answers:
         if any(word.startswith(b"ct=") for word in values(walk.line)):
             return None
         return next((step for step in self.passed(walk) if self.rule(step).on_states), None)
+
+
+# What iptaudit writes as JSON.
+def step_of(found):
+    return found["chain"].encode(), found["number"]
+
+
+def answer_of(found, is_placed=True):
+    """The text of a condition, after `! ` where it doesn't hold, and with its place where it has one."""
+    place = b" at %s %d" % step_of(found) if is_placed and "chain" in found else b""
+    return (b"" if found["holds"] else b"! ") + found["condition"].encode() + place
+
+
+def walk_of(line, found):
+    name, _, kind = found["verdict"].encode().partition(b" ")
+    by = found.get("by", {})
+    step = step_of(by) if "number" in by else None
+    verdict = Verdict(name, kind or None, step or (b"policy" if by else None))
+    return Walk(line, [step] if step else [], verdict, [answer_of(each) for each in found.get("answers", ())])
+
+
+class WholeAnswers:
+    """What iptaudit, given some words, says of a ruleset whose rules need conditions: the walks of each packet line of some groups, of which one has answers
+    that are right, and the rules that none of the packets matches. What is said of a line that is refused begins with `place` and its number; `file`
+    is where it stands, if it is a file."""
+
+    def __init__(self, name, words, groups, place, file=None):
+        self.name, self.words, self.groups, self.place, self.file = name, words, groups, place, file
+        session = Session()
+        asked = [(number, packet, session.ask(packet)) for group in groups for number, packet in group.packets]
+        session.run()
+        stop_at_refused(session, asked, place, file, [])
+        self.found = [walks for group in groups for walks in self.walks_of(group)]
+
+    def ask(self, words, packets, number=None):
+        """The document that iptaudit writes of packet lines. What it refuses is the ruleset, or words, which stand in a line of this number."""
+        with tempfile.TemporaryDirectory() as folder:
+            rules = os.path.join(folder, "rules")
+            with open(rules, "wb") as file:
+                file.write(b"\n".join(rule_lines(self.name)) + b"\n")
+            data = b"".join(packet + b"\n" for _, packet in packets)
+            said = ended([*words, *self.words, "--json", rules], data, "iptaudit", subprocess.PIPE)
+        if said.returncode == 2:
+            at, why = SAID.match(said.stderr).groups()
+            if at:
+                raise Unfit([Complaint(f"{self.name} doesn't load: line {int(at)}: {os.fsdecode(why)}", self.name, int(at))])
+            place = f"{self.place}{number}: " if number else ""
+            raise Unfit([Complaint(place + os.fsdecode(why), self.file if number else None, number)])
+        return json.loads(said.stdout)
+
+    def walks_of(self, group):
+        """The walks of each packet of a group; none of one whose walks aren't found out."""
+        found = self.ask(["walk", *group.words], group.packets, group.number)["packets"]
+        return [[walk_of(packet, walk) for walk in each.get("walks", ())] for (_, packet), each in zip(group.packets, found)]
+
+    def of_packets(self):
+        return self.found
+
+    @functools.cached_property
+    def rules(self):
+        """The rules by their steps, each with its text, what it needs, and whether a packet matches it."""
+        found = self.ask(["cover"], [packet for group in self.groups for packet in group.packets])["rules"]
+        return {step_of(each): each for each in found}
+
+    def rule(self, step):
+        rule = self.rules[step]
+        needs = b" and ".join(answer_of(each, False) for each in rule.get("needs", ()))
+        return Rule(rule["rule"].encode() + (b" if " + needs if needs else b""), False, None, None)
+
+    def unmatched(self):
+        return [step for step, rule in self.rules.items() if rule["life"] != "covered"]
+
+    def invalid_at(self, _walk):
+        """That isn't known: of a walk the last step alone is."""
+        return None

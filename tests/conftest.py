@@ -108,15 +108,15 @@ def folder():
 
 
 @pytest.fixture(scope="session")
-def command(iptsim):
-    """The commands for users by their names: they ask iptsim."""
-    return lambda name: Command(os.path.join(BIN, name), IPTSIM=iptsim.path)
+def command(iptsim, iptaudit):
+    """The commands for users by their names: they ask both programs."""
+    return lambda name: Command(os.path.join(BIN, name), IPTSIM=iptsim.path, IPTAUDIT=iptaudit.path)
 
 
 @pytest.fixture
-def installed(iptsim, folder):
+def installed(iptsim, iptaudit, folder):
     """The same, installed into an empty folder."""
-    return lambda name: Command(*install(folder, name), IPTSIM=iptsim.path)
+    return lambda name: Command(*install(folder, name), IPTSIM=iptsim.path, IPTAUDIT=iptaudit.path)
 
 
 @pytest.fixture(scope="module")
