@@ -25,8 +25,8 @@ HANDED_ON = {"--when": ("CONDITION", "a condition that holds, or after '! ' does
              "--local": ("ADDRESSES", "the machine's addresses, as iptaudit takes them"),
              "--unknown": ("MATCH", "a match that iptaudit is to read as a condition"),
              "--steps": ("N", "how many steps iptaudit may take for a packet")}
-# The first line of what iptaudit says of an input: that of a file or of the packets, or another sentence.
-SAID = re.compile(rb"(?:line ([0-9]+): |iptaudit: )?(.*)")
+# What iptaudit says first of an input, but for what a file says that was assumed: of a line, or another sentence.
+SAID = re.compile(rb"(?m)^(?:line ([0-9]+): |iptaudit: )?([^#\n].*)")
 
 # `by` is b"policy", b"rule", a step, or None; a step is a chain and a number. What is due may have None for any.
 Verdict = collections.namedtuple("Verdict", "name kind by")
@@ -249,7 +249,7 @@ class WholeAnswers:
             data = b"".join(packet + b"\n" for _, packet in packets)
             said = ended([*words, *self.words, "--json", rules], data, "iptaudit", subprocess.PIPE)
         if said.returncode == 2:
-            at, why = SAID.match(said.stderr).groups()
+            at, why = SAID.search(said.stderr).groups()
             if at:
                 raise Unfit([Complaint(f"{self.name} doesn't load: line {int(at)}: {os.fsdecode(why)}", self.name, int(at))])
             place = f"{self.place}{number}: " if number else ""
