@@ -64,7 +64,7 @@ def built(bug, folder):
 def runs_of(bug, is_quick):
     """What is run, and by which name: the script that is named with the bug comes first, on the cases that are named with it."""
     if bug.cases:
-        yield bug.seen, [*SCRIPTS[bug.seen], "--cases", bug.cases]
+        yield bug.seen, [*SCRIPTS[bug.seen], "--cases=" + bug.cases]
         if is_quick:
             return
     for name in sorted(SCRIPTS, key=lambda name: name != bug.seen):
@@ -77,8 +77,9 @@ def seen_by(bug, program, is_quick):
         call = [os.path.join(TOOLS, "python"), "pytest", *words, "-x", "-q", "--iptsim", program]
         ended = subprocess.run(call, cwd=ROOT, capture_output=True, text=True, errors="replace", check=False)
         lines = (ended.stdout + ended.stderr).strip().split("\n")
-        if ended.returncode == FAILED:
-            return name, next((line for line in lines if line.startswith("FAILED ")), lines[-1])
+        failed = next((line for line in lines if line.startswith("FAILED ")), None)
+        if ended.returncode == FAILED and failed:
+            return name, failed
         if ended.returncode:
             sys.exit(f"planted: pytest ends with {ended.returncode} and runs no test: {lines[-1]}")
     return None, ""
