@@ -15,8 +15,8 @@ Then each case, but for those of more than 3,000 bytes, is damaged at some place
 a fixed seed draws it. Eight damaged sessions after one another make an input.
 
 The short cases are those in which each kind of line and each command comes once, as far as they do in cases of 140 bytes at most.
-`--cases WORD` takes the cases whose file or name has the word; `--quick` cuts at every seventh byte. How a reader or writer is called otherwise, as one
-that is interrupted, `devices` shows.
+`--cases WORD` takes the cases whose file or name has the word; `--quick` cuts at every seventh byte, and damages every seventh case. How a reader or
+writer is called otherwise, as one that is interrupted, `devices` shows.
 """
 
 import functools
@@ -36,7 +36,7 @@ from tests.shared.played import Told, chosen, coarse_kinds_of, plays_of, size_of
 
 # How many bytes cases have that are cut, and that are damaged; how many damaged ones make an input; of how many bytes parts are.
 SHORT, LONG, DAMAGED, PIECE = 140, 3000, 8, 7
-# How many bytes lie between two cuts where the program is slow.
+# Where the program is slow, of so many cuts one is made, and of so many cases one is damaged.
 STRIDE = 7
 PARTS = 8
 INPUT_FAILED, OUTPUT_FAILED = b"iptsim: input failed\n", b"iptsim: output failed\n"
@@ -165,16 +165,21 @@ def plays(words):
     return short if words else chosen(short, 1, coarse_kinds_of), [play for play in found if play.words == ("session",)]
 
 
+@pytest.fixture(scope="module")
+def stride(pytestconfig):
+    return STRIDE if pytestconfig.getoption("quick") else 1
+
+
 @pytest.mark.parametrize("part", range(PARTS))
-def test_cut(part, iptsim, cases, pytestconfig):
-    devices, stride = Devices(iptsim.path), STRIDE if pytestconfig.getoption("quick") else 1
+def test_cut(part, iptsim, cases, stride):
+    devices = Devices(iptsim.path)
     for play in plays(cases)[0][part::PARTS]:
         cut_input(devices, play, stride)
         cut_output(devices, play, stride)
 
 
 @pytest.mark.parametrize("part", range(PARTS))
-def test_damaged(part, iptsim, cases, seed):
+def test_damaged(part, iptsim, cases, seed, stride):
     devices = Devices(iptsim.path)
-    for play in plays(cases)[1][part::PARTS]:
+    for play in plays(cases)[1][part::PARTS][::stride]:
         damage(devices, play, Lots(f"{seed} {play.name}"))
