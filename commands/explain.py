@@ -12,7 +12,7 @@ states that a packet without `ct`, which is INVALID, reached. With --why-not the
 each after `not` and up to the first condition that fails, with what the packet has there.
 
 Where iptsim refuses RULES, iptaudit is asked. What a rule needs beyond what a packet line says is a condition then: each of the packet's
-walks stands behind the answers that it needs, with the rule that decides alone, and --why-not isn't for such files. --when, --local,
+walks stands behind the answers that it needs, and of its rules only the one that decides; --why-not isn't for such files. --when, --local,
 --unknown and --steps are handed on to iptaudit, which is asked then, whatever RULES has.
 
 Status: 0, each packet is explained; 1, RULES doesn't load, or a packet line is refused, or there is none: then none is explained; 2, a
