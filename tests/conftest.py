@@ -37,6 +37,12 @@ def pytest_addoption(parser):
     drawn.addoption("--times", type=int, default=1, help="draws so many times as many cases")
 
 
+def pytest_configure(config):
+    """Tests of one group have one worker, and the others go to whichever is free, however many `-n` asks for."""
+    if getattr(config.option, "dist", None) == "load":
+        config.option.dist = "loadgroup"
+
+
 def pytest_collection_modifyitems(items):
     places = {os.path.join(ROOT, "tests", name): place for place, name in enumerate(LONGEST)}
     items.sort(key=lambda item: places.get(str(item.path), len(LONGEST)))

@@ -15,8 +15,8 @@ Then each case, but for those of more than 3,000 bytes, is damaged at some place
 a fixed seed draws it. Eight damaged sessions after one another make an input.
 
 The short cases are those in which each kind of line and each command comes once, as far as they do in cases of 140 bytes at most.
-`--cases WORD` takes the cases whose file or name has the word; `--quick` cuts at every seventh byte, and damages every seventh case. How a reader or
-writer is called otherwise, as one that is interrupted, `devices` shows.
+`--cases WORD` takes the cases whose file or name has the word; `--quick` cuts at every seventh byte, and damages every seventh case, up to a damaged
+session with a long walk. How a reader or writer is called otherwise, as one that is interrupted, `devices` shows.
 """
 
 import functools
@@ -36,8 +36,8 @@ from tests.shared.played import Told, chosen, coarse_kinds_of, plays_of, size_of
 
 # How many bytes cases have that are cut, and that are damaged; how many damaged ones make an input; of how many bytes parts are.
 SHORT, LONG, DAMAGED, PIECE = 140, 3000, 8, 7
-# Where the program is slow, of so many cuts one is made, and of so many cases one is damaged.
-STRIDE = 7
+# Where the program is slow, of so many cuts one is made, of so many cases one is damaged, and a walk of more steps is the last.
+STRIDE, STEPS = 7, 1000
 PARTS = 8
 INPUT_FAILED, OUTPUT_FAILED = b"iptsim: input failed\n", b"iptsim: output failed\n"
 # Bytes that separate words and lines, or begin them, or none of these.
@@ -147,13 +147,16 @@ def damaged(dice, data):
     return data[:at] + kept + data[at + 1 :]
 
 
-def damage(devices, play, dice):
-    """Damaged sessions one after another, each on the table that the one before left, but for its rules and chains."""
+def damage(devices, play, dice, is_slow):
+    """Damaged sessions one after another, each on the table that the one before left, but for its rules and chains. Where the program is slow, one with
+    a long walk is the last."""
     told = Told()
     for _ in range(DAMAGED):
         told.say(lines_of(damaged(dice, play.data)))
         told.close()
         told.show()
+        if is_slow and any(len(trail) > STEPS or verdict == b"TOOLONG" for trail, verdict in told.model.walks):
+            break
     compare(f"damaged at {DAMAGED} places", play, told.data(), devices.run(play.words, input=told.data()), told.due())
 
 
@@ -182,4 +185,4 @@ def test_cut(part, iptsim, cases, stride):
 def test_damaged(part, iptsim, cases, seed, stride):
     devices = Devices(iptsim.path)
     for play in plays(cases)[1][part::PARTS][::stride]:
-        damage(devices, play, Lots(f"{seed} {play.name}"))
+        damage(devices, play, Lots(f"{seed} {play.name}"), stride > 1)

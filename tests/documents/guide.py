@@ -13,7 +13,7 @@ import pytest
 
 from tests import ROOT
 from tests.shared import read
-from tests.shared.followed import follow
+from tests.shared.installed import follow
 
 DOCUMENTS = ("README.md", "docs/GUIDE.md")
 COMMAND = re.compile(r"(?m)^    \$ (.*)\n((?:(?!    \$ |#).*\n)*)")

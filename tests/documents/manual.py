@@ -22,7 +22,7 @@ import pytest
 
 from tests import ROOT
 from tests.shared import read
-from tests.shared.followed import follow
+from tests.shared.installed import follow
 from tests.shared.row_files import rows_in
 from tools.completing.table import read_commands
 

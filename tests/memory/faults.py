@@ -107,7 +107,7 @@ differs = functools.partial(pytest.fail, pytrace=False)
 
 
 class SessionLines:
-    """A case as lines of one session: what is given where one of them is refused, and what is due."""
+    """A case as lines of one session: the input where one of them is refused, with what is due."""
 
     def __init__(self, play):
         self.words, self.file, self.lines = play.words, None, lines_of(play.data)
@@ -116,9 +116,9 @@ class SessionLines:
         # there is no memory for more room.
         self.end, self.may_be_over = len(self.lines), len(self.lines) > LONG
 
-    def told(self, again, marks):
-        """The session with marks; after its lines comes line `again`, if it is a number, and what shows the table."""
-        told = Told(marks)
+    def given(self, again):
+        """The input in which line `again` is refused, with what is due; after its lines comes this line, if it is a number, and what shows the table."""
+        told = Told({again})
         told.say(self.lines)
         told.close()
         if again:
@@ -126,16 +126,12 @@ class SessionLines:
             told.say(self.statements[again - 1])
             told.close()
         told.show(len(self.lines) > LONG)
-        return told
+        return told.data(), told.due()
 
-    def given(self, again):
-        """The input: what is shown is that of the session in which the line is refused."""
-        return self.told(again, {again}).data()
-
-    def due(self, again, line):
-        """What is due where a line is refused, or none."""
+    def due(self, data, line):
+        """What is due of such an input where any line is refused, or none."""
         told = Told({line})
-        told.say(lines_of(self.given(again)))
+        told.say(lines_of(data))
         return told.due()
 
 
@@ -148,12 +144,12 @@ class WholeInput:
         self.end, self.may_be_over = math.inf, True
 
     def given(self, again):
-        return self.data
+        return self.data, self.due(self.data, again)
 
-    def due(self, again, line):
+    def due(self, data, line):
         """The refused line is one of the input, or of the file if its number is below zero."""
         marks = () if line is None else ({line}, {-line})
-        return answer(self.words, self.data, self.file, *marks)
+        return answer(self.words, data, self.file, *marks)
 
 
 class Refusals:
@@ -162,16 +158,17 @@ class Refusals:
     def __init__(self, program, play, first):
         self.program, self.name, self.first = program, play.name, first
         self.played = SessionLines(play) if play.words == ("session",) and play.file is None else WholeInput(play)
-        self.last, self.refused, self.without, self.unrefused = None, collections.Counter(), 0, 0
-        self.data, self.dues = self.played.given(None), {}
+        self.refused, self.without, self.unrefused = collections.Counter(), 0, 0
+        self.give(None)
 
     def give(self, line):
-        self.last, self.data, self.dues = line, self.played.given(line), {}
+        self.last, (self.data, due) = line, self.played.given(line)
+        self.dues = {line: due}
 
     def due(self, line):
         """What is due where this line is refused, or none."""
         if line not in self.dues:
-            self.dues[line] = self.played.due(self.last, line)
+            self.dues[line] = self.played.due(self.data, line)
         return self.dues[line]
 
     def run(self):
@@ -238,7 +235,7 @@ class Refusals:
             if self.last is None:
                 self.first = number
             number += step
-        if not self.refused and any(self.played.due(None, number) != self.due(None) for number in range(1, len(self.played.lines) + 1)):
+        if not self.refused and any(self.played.due(self.data, number) != self.due(None) for number in range(1, len(self.played.lines) + 1)):
             differs(f"faults: {self.name}: no allocation was refused")
 
 

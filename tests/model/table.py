@@ -1,5 +1,7 @@
 """The table: chains as lists of rules. Each edit is done or refused by the first fault, and then changes nothing."""
 
+import functools
+
 from . import printing, values
 from .faults import need
 from .matching import matches
@@ -127,8 +129,9 @@ class Table:
 
 def walk(table, packet):
     """What becomes of a packet: the trail, as (chain, number), and the verdict. Rests of chains to come back to are kept as where
-    they begin."""
+    they begin. A rule to which the packet comes again isn't compared with it again."""
     chain, at, rests, trail = packet.hook, 0, [], []
+    matched = functools.cache(lambda rule: matches(rule, packet))
     while True:
         rules = table.chains[chain]
         if at == len(rules):
@@ -137,7 +140,7 @@ def walk(table, packet):
             chain, at = rests.pop()
             continue
         rule, at = rules[at], at + 1
-        if not matches(rule, packet):
+        if not matched(rule):
             continue
         if len(trail) == MOST_STEPS:
             return [], b"TOOLONG"

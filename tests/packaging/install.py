@@ -17,7 +17,7 @@ import pytest
 from tests import ROOT
 from tests.documents import guide
 from tests.packaging.parts import first_answers
-from tests.shared.followed import follow
+from tests.shared.installed import follow
 from tests.shared.rows import same
 from tools.completing.table import read_commands
 

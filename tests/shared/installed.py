@@ -1,8 +1,9 @@
 """Commands for users as they are installed: PREFIX/lib/iptsim has their starters and modules, and PREFIX/bin a link to each starter. And links to those
-of the sources, by the names by which they are installed.
+of the sources, by the names by which they are installed, with which commands of a document run.
 """
 
 import os
+import subprocess
 
 from tests import ROOT
 from tools.completing.table import read_commands
@@ -24,3 +25,13 @@ def linked(folder, **programs):
         os.symlink(path, os.path.join(folder, name))
     named = {name.upper(): path for name, path in programs.items()}
     return {**os.environ, **named, "PATH": folder + os.pathsep + os.environ["PATH"]}
+
+
+def follow(commands, folder, **programs):
+    """Runs commands at the top of a folder, where all are found by the names by which they are installed: what each writes. The programs are
+    given by their paths."""
+    environment = linked(os.path.join(folder, ".commands"), **programs)
+    for command in commands:
+        ended = subprocess.run(["bash", "-c", command], cwd=folder, env=environment, stdin=subprocess.DEVNULL, stdout=subprocess.PIPE,
+                               stderr=subprocess.STDOUT, check=False)
+        yield ended.stdout.decode()

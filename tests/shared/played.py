@@ -9,7 +9,7 @@ from tests.model import options, printing, values
 from tests.model.commands import BY_NAME as COMMANDS
 from tests.model.faults import Fault
 from tests.model.restore import COUNTERS, FILTER, Restore
-from tests.model.session import Session, whole
+from tests.model.session import Session, opening_of, whole
 from tests.model.words import is_passed_over, is_too_long, lines_of, words_of
 
 # An input of the program: a name, the program's words, the lines, and the file that is loaded before, if there is one.
@@ -24,21 +24,33 @@ def end_word(lines):
     return word
 
 
+def end_after(line, end):
+    """The line that ends the restore which is open after a line, or None: `end` is that of the restore which was open before it."""
+    if end is not None:
+        return None if line == end else end
+    # (without this sign, and in a line that isn't read, none is opened)
+    if b"<" not in line or is_too_long(line) or is_passed_over(line):
+        return None
+    try:
+        kind, *words = words_of(line)
+        return opening_of(words)[1] if kind == b"iptables-restore" else None
+    except Fault:
+        return None
+
+
 def joined_lines(runs):
     """The runs of a case as lines of one session: a restore stands between its opening and an end line."""
-    lines, table = [], None
+    lines = []
     for run in runs:
-        more, model = lines_of(run.input), Session(table)
+        more, end = lines_of(run.input), None
         if run.kind == "restore":
             kept = [option.encode() for option in run.options if option != "--list"]
             word = end_word(more)
             more = [b" ".join([b"iptables-restore", *kept, b"<<" + word]), *more, word]
             more += [b"iptables-save"] if "--list" in run.options else []
         for line in more:
-            model.line(line)
-        if model.restore:
-            more.append(model.end)
-        lines, table = lines + more, model.table
+            end = end_after(line, end)
+        lines += more if end is None else [*more, end]
     return lines
 
 
@@ -82,14 +94,13 @@ def model_differs(case):
 
 def statements(lines):
     """For each line the lines that are given with it: a restore from its opening to its end, or the line alone."""
-    model, result, open_one = Session(), [], None
+    result, open_one, end = [], [], None
     for line in lines:
-        open_one = open_one or []
         open_one.append(line)
         result.append(open_one)
-        model.line(line)
-        if not model.restore:
-            open_one = None
+        end = end_after(line, end)
+        if end is None:
+            open_one = []
     return result
 
 

@@ -9,8 +9,8 @@ pub(crate) mod progress;
 use crate::asking::progress::Progress;
 use fields::{Field, Hook};
 use questions::{
-    Answers, BoxedTable, Changes, Given, Leaf, Life, Likeness, Reached, Reason, Subject,
-    WrittenPacket, changes_under, compare_at_under, dead_under, life_under, reach, walks,
+    Answers, BoxedTable, Changes, End, Given, Leaf, Life, Likeness, Reached, Reason, Subject,
+    WrittenPacket, changes_under, compare_at_under, dead_under, ends, life_under, reach, walks,
     why_dead_under,
 };
 use std::alloc::{AllocError, Global};
@@ -146,6 +146,20 @@ impl<'a, R: Clock, E: Print + IsTerminal> Asking<'a, R, E> {
         answers: &Answers,
     ) -> Result<Option<Vec<Leaf>>, AllocError> {
         walks(self.alloc, subject, packet, answers, self.steps)
+    }
+
+    /// How the walk of a packet ends where these answers are right (`ends`), if that is known.
+    ///
+    /// # Errors
+    ///
+    /// `AllocError` where memory was refused.
+    pub(crate) fn ends(
+        &self,
+        subject: &Subject<'_>,
+        packet: &WrittenPacket,
+        answers: &Answers,
+    ) -> Result<Option<Vec<End>>, AllocError> {
+        ends(self.alloc, subject, packet, answers, self.steps)
     }
 
     /// The verdicts of a set of packets, grouped by a field (`reach`), by their deciders in the order of a listing; those that a policy

@@ -10,9 +10,9 @@ pub(crate) mod tally;
 use crate::asking::Asking;
 use crate::each_rule::known::{Form, Found, FoundRule, Inquiry, Known};
 use crate::each_rule::tally::Tally;
-use questions::{Life, Need, Reason, Subject};
+use questions::{Answers, Life, Need, Reason, Subject};
 use rulesets::contradict;
-use std::alloc::AllocError;
+use std::alloc::{AllocError, Global};
 use std::io::IsTerminal;
 use std::rt::Clock;
 use table::{Step, Table};
@@ -71,6 +71,20 @@ fn put_in_order(reason: &mut Reason, place: usize) {
     rules.sort_unstable_by_key(|rule| (rule.chain != place, rule.chain, rule.number));
 }
 
+// The answers under which a rule is live, in the order of their conditions. None are where it is asked which rules are dead: there it isn't shown.
+fn shown_of(
+    alloc: Global,
+    inquiry: Inquiry<'_>,
+    answers: &Answers,
+) -> Result<Vec<Need>, AllocError> {
+    if matches!(inquiry.form, Form::Dead) {
+        return Ok(Vec::new(alloc));
+    }
+    let mut given = inquiry.open.shown(alloc, answers)?;
+    given.sort_unstable_by_key(|need| need.condition);
+    Ok(given)
+}
+
 // Asks of a rule. One that a packet matches that was given needn't be asked of.
 fn ask_rule<R: Clock, E: Print + IsTerminal>(
     asking: &mut Asking<'_, R, E>,
@@ -93,8 +107,7 @@ fn ask_rule<R: Clock, E: Print + IsTerminal>(
     match life {
         Life::Live(_, _) if may_be_covered(inquiry.form, at) => Ok(Known::Unclear),
         Life::Live(words, answers) => {
-            let mut given = inquiry.open.shown(asking.alloc(), &answers)?;
-            given.sort_unstable_by_key(|need| need.condition);
+            let given = shown_of(asking.alloc(), inquiry, &answers)?;
             Ok(Known::Live(words, given))
         }
         Life::Dead if !has_reasons(inquiry.form) => Ok(Known::Dead(None)),

@@ -4,7 +4,7 @@ pub(crate) mod packet_walks;
 pub(crate) mod walk;
 
 use crate::asking::Asking;
-use crate::walking::walk::{Passed, Walk};
+use crate::walking::walk::{Branch, Passed, Walk};
 use questions::{Leaf, Need, WrittenPacket};
 use rulesets::{Dump, OpenConditions, contradict, has_opposite};
 use std::alloc::{AllocError, Global};
@@ -140,4 +140,31 @@ pub(crate) fn walks_of<R: Clock, E: Print + IsTerminal>(
         Some(leaves) => Ok(Some(walks_among(alloc, dump, open, leaves.as_slice())?)),
         None => Ok(None),
     }
+}
+
+/// How the walk of a packet ends, a branch for each set of answers that it hangs on. There are none where that isn't known.
+///
+/// # Errors
+///
+/// `AllocError` where memory was refused.
+pub(crate) fn ends_of<R: Clock, E: Print + IsTerminal>(
+    asking: &Asking<'_, R, E>,
+    dump: &Dump,
+    open: &OpenConditions,
+    packet: &WrittenPacket,
+) -> Result<Option<Vec<Branch>>, AllocError> {
+    let alloc = asking.alloc();
+    let start = open.start(alloc, &[])?;
+    let Some(ends) = asking.ends(&dump.subject(), packet, &start)? else {
+        return Ok(None);
+    };
+    let mut branches = Vec::new(alloc);
+    for end in ends.as_slice() {
+        branches.push(Branch {
+            given: open.shown(alloc, &end.answers)?,
+            verdict: end.verdict,
+            by: end.by,
+        })?;
+    }
+    Ok(Some(branches))
 }

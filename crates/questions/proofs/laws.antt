@@ -12,6 +12,7 @@ pub mod ElsewhereLaws
 pub mod EqualLaws
 pub mod ExactLaws
 pub mod ForeignLaws
+pub mod IdleLaws
 pub mod LeadLaws
 pub mod LengthLaws
 pub mod LetInLaws

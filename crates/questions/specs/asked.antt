@@ -2,6 +2,7 @@ pub mod Alike
 pub mod Always
 pub mod Changes
 pub mod Differing
+pub mod Idle
 pub mod Laws
 pub mod Necessary
 pub mod Reach

@@ -3,6 +3,7 @@ pub mod Before
 pub mod Candidates
 pub mod Compared
 pub mod Deciding
+pub mod Ending
 pub mod Exact
 pub mod Groups
 pub mod Leading

@@ -2,6 +2,7 @@
 pub(crate) mod alone;
 pub(crate) mod changes;
 pub(crate) mod compare;
+pub(crate) mod ends;
 pub(crate) mod equal;
 pub(crate) mod exact;
 pub(crate) mod laws;

@@ -13,6 +13,7 @@ mod written;
 
 pub use asked::changes::{Changes, changes_of, changes_under};
 pub use asked::compare::{compare, compare_at, compare_at_under, compare_under};
+pub use asked::ends::{End, ends};
 pub use asked::laws::{
     answers_exclude_each_other, changes_elsewhere, changes_off_the_walk, dead_rules_can_go,
 };

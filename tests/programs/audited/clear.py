@@ -54,6 +54,14 @@ def test_answers(iptaudit):
     assert (ended.returncode, came, ended.stderr) == (1, [b"packet"], b"")
 
 
+def test_walk(iptaudit):
+    """Runs `walk` on sets of banned hosts: a packet of no chain comes back from all 60, whatever the sets have."""
+    rules, _dead = RULESETS["sets of banned hosts"]
+    packet = b"packet INPUT src=10.8.0.1 dst=10.0.0.2 in=eth0 proto=tcp sport=4000 dport=22"
+    said = iptaudit.said(["walk", "R"], packet, {"R": dump_of(rules)})
+    same([b"  ACCEPT by INPUT 61"], said.splitlines()[1:2])
+
+
 def dump_of(rules):
     """A dump with these rules, which name all its chains."""
     chains = sorted({rule.split()[1] for rule in rules} - {b"INPUT", b"FORWARD"})

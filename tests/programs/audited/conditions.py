@@ -101,15 +101,19 @@ def resolved(dump, assignment):
 
 def assignments(*dumps):
     keys = sorted({key for dump in dumps for _, _, _, needs in places(dump[1]) for key, _ in needs})
-    for values in itertools.product((False, True), repeat=len(keys)):
-        yield dict(zip(keys, values))
+    return [dict(zip(keys, values)) for values in itertools.product((False, True), repeat=len(keys))]
 
 
-def walks(iptsim, data, packets):
-    """The rules on the walk of each packet, and how it ends, by iptsim, in what is left of a dump."""
-    said = iptsim.said(["session", "--load", "R"], "".join(packet + "\n" for packet in packets).encode(), {"R": data})
-    found = re.findall(r"((?:\S+ \d+\n)*)verdict (.*) by (rule|policy)\n", said.decode())
-    return [(rules.splitlines(), verdict, rules.splitlines()[-1] if by == "rule" else "policy") for rules, verdict, by in found]
+def walks(iptsim, dump, held, packets):
+    """The rules on the walk of each packet, and how it ends, by iptsim, in what is left of a dump under each assignment: one session restores these
+    one after another."""
+    left, asked = [resolved(dump, assignment) for assignment in held], "".join(packet + "\n" for packet in packets).encode()
+    dumps = list(dict.fromkeys(left))
+    said = iptsim.said(["session"], b"".join(b"iptables-restore <<END\n%sEND\n%s" % (data, asked) for data in dumps))
+    found = [(rules.splitlines(), verdict, rules.splitlines()[-1] if by == "rule" else "policy")
+             for rules, verdict, by in re.findall(r"((?:\S+ \d+\n)*)verdict (.*) by (rule|policy)\n", said.decode())]
+    assert len(found) == len(dumps) * len(packets)
+    return [found[at * len(packets):][:len(packets)] for at in map(dumps.index, left)]
 
 
 def agrees(assignment, line, known):
@@ -137,9 +141,8 @@ def test_walk(dump, iptsim, iptaudit):
     lines = iptaudit.said(["walk", "R"], given, {"R": data}).decode().splitlines()
     shown = dict(zip(lines[0:2 * len(PACKETS):2], lines[1:2 * len(PACKETS):2]))
     assert list(shown) == PACKETS
-    wrong, met = [], []
-    for assignment in assignments(dump):
-        found = walks(iptsim, resolved(dump, assignment), PACKETS)
+    wrong, met, held = [], [], assignments(dump)
+    for assignment, found in zip(held, walks(iptsim, dump, held, PACKETS)):
         met.append((assignment, [set(rules) for rules, _, _ in found]))
         for packet, (_, verdict, by) in zip(PACKETS, found):
             came = branch_of(shown.get(packet, ""), assignment, known)
@@ -170,9 +173,8 @@ def test_packets_of_rules(dump, iptsim, iptaudit):
     known, text = names(dump[1]), iptaudit.said(["tests", "R"], files={"R": whole(dump)}).decode()
     live = re.findall(r"(?m)^# (\S+ \d+) -A .*\n(?:#   if (.*)\n)?(?:# )?(packet .*)$", text)
     dead = set(re.findall(r"(?m)^# dead (\S+ \d+) ", text))
-    wrong = sorted({name for name, *_ in places(dump[1])} ^ ({name for name, *_ in live} | dead))
-    for assignment in assignments(dump):
-        found = walks(iptsim, resolved(dump, assignment), [packet for _, _, packet in live])
+    wrong, held = sorted({name for name, *_ in places(dump[1])} ^ ({name for name, *_ in live} | dead)), assignments(dump)
+    for assignment, found in zip(held, walks(iptsim, dump, held, [packet for _, _, packet in live])):
         for (name, line, packet), (rules, _, _) in zip(live, found):
             if agrees(assignment, line, known) and name not in rules or dead & set(rules):
                 wrong.append((name, line, packet, assignment, rules))
@@ -186,10 +188,9 @@ def test_compare(old, new, iptsim, iptaudit):
     text = iptaudit.said(["compare", "O", "N"], files={"O": whole(old), "N": whole(new)}).decode()
     differs = re.findall(r"(?m)^(\S+) differs\n(packet .*)\n(?:  if (.*)\n)?old:\n", text)
     packets = [packet for _, packet, _ in differs] + PACKETS
-    wrong = re.findall(r"(?m)^\S+ unclear$", text)
-    for assignment in assignments(old, new):
-        both = zip(packets, walks(iptsim, resolved(old, assignment), packets), walks(iptsim, resolved(new, assignment), packets))
-        for place, (packet, first, second) in enumerate(both):
+    wrong, held = re.findall(r"(?m)^\S+ unclear$", text), assignments(old, new)
+    for assignment, *both in zip(held, walks(iptsim, old, held, packets), walks(iptsim, new, held, packets)):
+        for place, (packet, first, second) in enumerate(zip(packets, *both)):
             are_same = first[1] == second[1]
             if place < len(differs) and are_same and agrees(assignment, differs[place][2], known):
                 wrong.append((packet, assignment, first, second))

@@ -178,8 +178,12 @@ fn join(branches: &mut Vec<Branch>) {
     }
 }
 
-// A branch for each walk.
-fn branches_among(alloc: Global, walks: Vec<Walk>) -> Result<Vec<Branch>, AllocError> {
+/// A branch for each walk.
+///
+/// # Errors
+///
+/// `AllocError` where memory was refused.
+pub(crate) fn branches_among(alloc: Global, walks: Vec<Walk>) -> Result<Vec<Branch>, AllocError> {
     let mut branches = Vec::new(alloc);
     for walk in walks {
         let Walk {
@@ -193,21 +197,12 @@ fn branches_among(alloc: Global, walks: Vec<Walk>) -> Result<Vec<Branch>, AllocE
     Ok(branches)
 }
 
-/// What becomes of the packet of these walks, in which each answer changes something: branches, of which each parts from those behind it by a
-/// condition that holds in it. So the first whose conditions that are to hold do hold is the right one. There are none where the walks
-/// don't part so.
-///
-/// # Errors
-///
-/// `AllocError` where memory was refused.
-pub(crate) fn branches_of(
-    alloc: Global,
-    walks: Vec<Walk>,
-) -> Result<Option<Vec<Branch>>, AllocError> {
-    let mut branches = branches_among(alloc, walks)?;
+/// What becomes of a packet, by branches in which each answer changes something, and of which each parts from those behind it by a condition that
+/// holds in it. So the first whose conditions that are to hold do hold is the right one. There are none where the branches don't part so.
+pub(crate) fn joined(mut branches: Vec<Branch>) -> Option<Vec<Branch>> {
     if !are_in_order(branches.as_slice()) {
-        return Ok(None);
+        return None;
     }
     join(&mut branches);
-    Ok(Some(branches))
+    Some(branches)
 }

@@ -249,3 +249,11 @@ asked_first needs hook start front first =
       tasks = subst (All Tasks) (sym first.tasks) (All-cons Tasks first.task [] own (All-nil Tasks));
       leaves = subst (All Leaves) (sym first.leaves) (All-nil Leaves);
     }
+
+-- needs that ask that a condition holds, and that it doesn't, are never met
+pub contrary : (a : Assignment) (needs : List Need) (condition : ℕ) → Contains needs (record { condition = condition; inverted = false }) → Contains needs (record { condition = condition; inverted = true }) → all_hold a needs ≡ false
+contrary a needs condition (k, lt, is) (j, less, at) =
+    elim (cases_Bool (a condition)) [
+      | inl held ↦ list_all_at (need_holds a) needs j _ less (ap (need_holds a) at ∙ ap not held)
+      | inr un ↦ list_all_at (need_holds a) needs k _ lt (ap (need_holds a) is ∙ un)
+    ]

@@ -4,10 +4,12 @@ ghost use Rattle.classify.specs.Classifier.{box_matches};
 ghost use Rattle.rules.specs.Boxed.{IsBox};
 ghost use Rattle.rules.specs.rule.Allows.{matches};
 ghost use Rattle.questions.specs.Ends.{IsRule, rule_at};
+ghost use Rattle.questions.specs.boxes.Boxes.{IsAtHook};
+ghost use Rattle.questions.specs.boxes.Cut.{AreWholeBut};
 
 use crate::boxes::boxed_table::BoxedTable;
 use crate::written::WrittenPacket;
-use fields::{Field, Packet, Spans};
+use fields::{FIELDS, Field, Packet, Spans};
 use rules::cross;
 use table::Step;
 
@@ -18,6 +20,22 @@ pub(crate) fn has(sets: &[Spans], packet: &Packet) -> bool
 {
     for field in Field::ALL {
         if !sets[field.index()].has(packet.point(field)) {
+            return false;
+        }
+    }
+    true
+}
+
+// The same, given the fields on which the box leaves numbers out: no other is looked at.
+pub(crate) fn has_on(sets: &[Spans], packet: &Packet, narrow: &[bool; FIELDS]) -> bool
+    requires sets { IsBox sets.now }
+    requires can { IsAtHook packet.now }
+    requires narrow { AreWholeBut narrow.now sets.now }
+    ensures { result ≡ box_matches packet.now.values sets.now }
+{
+    for field in Field::ALL {
+        let place = field.index();
+        if narrow[place] && !sets[place].has(packet.point(field)) {
             return false;
         }
     }

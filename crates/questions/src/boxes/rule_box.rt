@@ -1,15 +1,16 @@
 //! The box of a rule, with what tells most other boxes apart from it at once.
 ghost use Rattle.std.specs.Prelude.{◌≡◌, ℕ, List, false, IfOk, IsTrue};
 ghost use Rattle.fields.specs.numbers.Spans.{SpanSet};
-ghost use Rattle.classify.specs.Classifier.{IsPoint};
-ghost use Rattle.questions.specs.boxes.Boxes.{Has, HasNumbers};
+ghost use Rattle.classify.specs.Classifier.{IsPoint, box_matches};
+ghost use Rattle.questions.specs.boxes.Boxes.{Has, HasNumbers, IsAtHook};
 ghost use Rattle.questions.specs.boxes.Cut.{AreMet, AreWholeBut};
 ghost use Rattle.questions.specs.steps.Outlines.{IsOutlined};
 
 use crate::boxes::area::Area;
 use crate::boxes::ends::{Outline, outline_of};
+use crate::boxes::matched::has_on;
 use crate::boxes::meeting::{are_apart, narrow_fields};
-use fields::FIELDS;
+use fields::{FIELDS, Packet};
 use rules::Boxed;
 use std::alloc::{AllocError, Global};
 use std::marker::Model;
@@ -55,6 +56,14 @@ impl RuleBox {
         ensures { result.now ≡ self.now }
     {
         &self.boxed
+    }
+
+    // Whether it has a packet. It takes no memory, and looks only at the fields where it leaves numbers out.
+    pub(crate) fn has(&self, packet: &Packet) -> bool
+        requires { IsAtHook packet.now }
+        ensures { result ≡ box_matches packet.now.values self.now }
+    {
+        has_on(self.boxed.spans(), packet, &self.narrow)
     }
 
     // Whether it has no packet in common with a box that has this outline, as far as the outlines tell.

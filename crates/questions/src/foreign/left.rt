@@ -9,7 +9,7 @@ use crate::foreign::need::{Need, Needs};
 use std::alloc::{AllocError, Global};
 
 // What no assignment meets: a need, and the same inverted.
-fn unmeetable(alloc: Global, need: Need) -> Result<Vec<Need>, AllocError>
+pub(crate) fn unmeetable(alloc: Global, need: Need) -> Result<Vec<Need>, AllocError>
     ensures { IfOk result (λ both. both.items ≡ need ∷ record { condition = need.condition; inverted = not need.inverted } ∷ []) }
 {
     let mut both = Vec::new(alloc);
@@ -21,15 +21,7 @@ fn unmeetable(alloc: Global, need: Need) -> Result<Vec<Need>, AllocError>
     Ok(both)
 }
 
-// The condition of the first answer, or else another one.
-fn first_condition(answers: &Answers, other: usize) -> usize {
-    match answers.listed().first() {
-        Some(answer) => answer.condition,
-        None => other,
-    }
-}
-
-// What a rule still needs. All rules that can't be met need the same, so that walks part by it once at most.
+// What a rule still needs.
 fn left_of(alloc: Global, needs: &[Need], answers: &Answers) -> Result<Vec<Need>, AllocError>
     ensures alike { IfOk result (λ left. AreAlike answers.now needs.now left.items) }
     ensures free { IfOk result (λ left. AreFree answers.now left.items) }
@@ -40,12 +32,7 @@ fn left_of(alloc: Global, needs: &[Need], answers: &Answers) -> Result<Vec<Need>
             None => left.push(*need)?,
             Some(holds) => {
                 if holds == need.inverted {
-                    let condition = first_condition(answers, need.condition);
-                    let never = Need {
-                        condition,
-                        inverted: false,
-                    };
-                    return unmeetable(alloc, never);
+                    return unmeetable(alloc, *need);
                 }
             }
         }

@@ -1,6 +1,6 @@
 //! What rules need of conditions that this program doesn't know.
-ghost use Rattle.std.specs.Prelude.{◌≡◌, ◌↔◌, [], false, map, All, IfOk, IsTrue, MatchOption};
-ghost use Rattle.questions.specs.Foreign.{AreWithoutNeeds, needs_at, needs_listed};
+ghost use Rattle.std.specs.Prelude.{◌≡◌, ◌↔◌, [], false, map, All, Contains, IfOk, IsFalse, IsTrue, MatchOption};
+ghost use Rattle.questions.specs.Foreign.{AreWithoutNeeds, Assignment, all_hold, needs_at, needs_listed};
 ghost use Rattle.questions.specs.steps.Answered.{IsMeeting, IsStanding, MeetsNever};
 
 use crate::foreign::answers::Answers;
@@ -136,7 +136,32 @@ pub(crate) enum Standing {
     Open(usize),
 }
 
-// What is known of a rule's needs by the answers: one fails, or all hold, or else it hangs on the first condition that has no answer.
+// Whether something is among needs.
+fn is_among(needs: &[Need], wanted: Need) -> bool
+    ensures { IsTrue result ↔ Contains needs.now wanted }
+{
+    needs.contains(&wanted)
+}
+
+// Whether needs ask that a condition holds, and that it doesn't.
+fn are_contrary(needs: &[Need], condition: usize) -> bool
+    ensures { IsTrue result → (a : Assignment) → IsFalse (all_hold a needs.now) }
+{
+    let held = Need {
+        condition,
+        inverted: false,
+    };
+    let not_held = Need {
+        condition,
+        inverted: true,
+    };
+    let is_held = is_among(needs, held);
+    let is_not_held = is_among(needs, not_held);
+    is_held && is_not_held
+}
+
+// What is known of a rule's needs by the answers: one fails, or two are contrary, or all hold, or else it hangs on the first condition that has no
+// answer.
 pub(crate) fn known_of(needs: &[Need], answers: &Answers) -> Standing
     ensures { IsStanding needs.now answers.now result }
 {
@@ -153,7 +178,12 @@ pub(crate) fn known_of(needs: &[Need], answers: &Answers) -> Standing
     }
     match found {
         None => Standing::Holds,
-        Some(condition) => Standing::Open(condition),
+        Some(condition) => {
+            if are_contrary(needs, condition) {
+                return Standing::Fails;
+            }
+            Standing::Open(condition)
+        }
     }
 }
 

@@ -2,14 +2,13 @@
 use crate::foreign::answers::Answers;
 use crate::foreign::need::{Standing, known_of};
 use crate::foreign::subject::Subject;
-use crate::seeking::calls::place_named;
-use crate::seeking::seen::{Seen, decides};
+use crate::seeking::seen::Seen;
 use crate::walking::engine::LIMIT;
-use crate::walking::task::Pending;
+use classify::CandidateRows;
 use fields::Packet;
-use rules::{Target, cross};
+use rules::{Rule, Target, cross};
 use std::alloc::{AllocError, Global};
-use table::Step;
+use table::{Step, Table};
 
 // A packet on its way to a rule, where answers are right.
 #[derive(Clone, Copy)]
@@ -20,9 +19,16 @@ pub(crate) struct Approach<'s, 'p, 'a> {
     pub wanted: Step,
 }
 
+// A chain in which the packet is, and which rules there have it in their boxes.
+#[derive(Drop)]
+struct Open<'s> {
+    place: usize,
+    rows: CandidateRows<'s>,
+}
+
 // Where the packet may be, chain by chain.
 #[derive(Drop)]
-pub(crate) struct Before {
+pub(crate) struct Before<'s> {
     // At how many of the chain's rules it may be, from the first on; more than all where it may be at the chain's end.
     pub far: Vec<usize>,
     // 1 if it may be back from the chain, or else 0.
@@ -30,7 +36,7 @@ pub(crate) struct Before {
     // Whether it may get a verdict in the chain, or in one to which this leads.
     ends: Vec<bool>,
     // The chains in which it is, each entered from the one before.
-    open: Vec<usize>,
+    open: Vec<Open<'s>>,
 }
 
 // What a rule makes of the packet.
@@ -42,14 +48,18 @@ enum Turn {
     Ends,
 }
 
-// The next rule in what is left of a chain whose box has the packet.
-pub(crate) fn next_place(subject: &Subject<'_>, packet: &Packet, at: Pending) -> Option<usize> {
+// Which rules of the chain at a place have a packet in their boxes, for several searches; the rows are lent.
+pub(crate) fn rows_at<'s>(
+    subject: &Subject<'s>,
+    packet: &Packet,
+    place: usize,
+) -> Option<CandidateRows<'s>> {
     let table = &subject.boxed.table;
-    if at.chain >= table.chain_count() {
+    if place >= table.chain_count() {
         return None;
     }
-    let candidates = table.classifier(at.chain).at(packet.numbers());
-    candidates.next(at.passed)
+    let candidates = table.classifier(place).at(packet.numbers());
+    Some(candidates.rows())
 }
 
 // The number of the chain at a place, if there is one.
@@ -67,9 +77,9 @@ fn put_at(numbers: &mut Vec<usize>, place: usize, number: usize) {
     }
 }
 
-impl Before {
+impl<'s> Before<'s> {
     // It is in none of so many chains.
-    pub(crate) fn nowhere(alloc: Global, count: usize) -> Result<Before, AllocError> {
+    pub(crate) fn nowhere(alloc: Global, count: usize) -> Result<Before<'s>, AllocError> {
         Ok(Before {
             far: vec![in alloc; 0usize; count]?,
             back: vec![in alloc; 0usize; count]?,
@@ -86,8 +96,8 @@ impl Before {
         }
     }
 
-    // What a rule that matches makes of it, which names the chain at a place.
-    fn enter(&mut self, seen: &Seen<'_>, by: Step, place: usize, after: Turn) -> Turn {
+    // What a rule makes of it that leads from one chain to another, from which it comes back after a jump.
+    fn enter(&mut self, own: usize, place: usize, is_jump: bool, after: Turn) -> Turn {
         if number_at(self.far.as_slice(), place) == 0 {
             return Turn::Enters(place);
         }
@@ -95,19 +105,36 @@ impl Before {
             return Turn::Ends;
         }
         let is_back = number_at(self.back.as_slice(), place) > 0;
-        if matches!(seen.rule.target(), Some(Target::Jump(_))) {
-            return if is_back { Turn::On } else { after };
+        if is_jump && is_back {
+            return Turn::On;
         }
         if is_back {
-            put_at(&mut self.back, by.chain, 1);
+            put_at(&mut self.back, own, 1);
         }
         after
     }
 
+    // What a rule that matches makes of it in its chain.
+    fn follow(&mut self, table: &Table, rule: &Rule, own: usize, after: Turn) -> Turn {
+        let (is_jump, entered) = match rule.target() {
+            Some(Target::Accept | Target::Drop | Target::Reject(_)) => return Turn::Ends,
+            Some(Target::Log) | None => return Turn::On,
+            Some(Target::Return) => {
+                put_at(&mut self.back, own, 1);
+                return after;
+            }
+            Some(Target::Jump(name)) => (true, table.index_of(name.bytes())),
+            Some(Target::Goto(name)) => (false, table.index_of(name.bytes())),
+        };
+        match entered {
+            Some(place) => self.enter(own, place, is_jump, after),
+            None => Turn::On,
+        }
+    }
+
     // What a rule makes of it whose box has the packet.
     fn meet(&mut self, approach: &Approach<'_, '_, '_>, by: Step) -> Turn {
-        let subject = approach.subject;
-        let Some(seen) = Seen::at(subject, by) else {
+        let Some(seen) = Seen::at(approach.subject, by) else {
             return Turn::On;
         };
         if !cross(seen.rule, approach.packet) {
@@ -121,42 +148,35 @@ impl Before {
         if by == approach.wanted {
             return after;
         }
-        if decides(seen.rule.target()) {
-            return Turn::Ends;
-        }
-        if matches!(seen.rule.target(), Some(Target::Return)) {
-            put_at(&mut self.back, by.chain, 1);
-            return after;
-        }
-        match place_named(&subject.boxed.table, seen.rule.target()) {
-            Some(place) => self.enter(&seen, by, place, after),
-            None => Turn::On,
-        }
+        self.follow(&approach.subject.boxed.table, seen.rule, by.chain, after)
     }
 
     // It may get a verdict in all chains in which it is.
     fn end(&mut self) {
-        while let Some(place) = self.open.pop() {
-            if place < self.ends.len() {
-                self.ends[place] = true;
+        while let Some(open) = self.open.pop() {
+            if open.place < self.ends.len() {
+                self.ends[open.place] = true;
             }
         }
     }
 
     // It is in one more chain.
-    fn open_at(&mut self, place: usize) -> Result<(), AllocError> {
+    fn open_at(&mut self, approach: &Approach<'s, '_, '_>, place: usize) -> Result<(), AllocError> {
         put_at(&mut self.far, place, 1);
-        self.open.push(place)?;
+        if let Some(rows) = rows_at(&approach.subject, approach.packet, place) {
+            self.open.push(Open { place, rows })?;
+        }
         Ok(())
     }
 
     // One step through the newest of these.
-    fn step(&mut self, approach: &Approach<'_, '_, '_>, chain: usize) -> Result<(), AllocError> {
-        let at = Pending {
-            chain,
-            passed: number_at(self.far.as_slice(), chain).saturating_sub(1),
+    fn step(&mut self, approach: &Approach<'s, '_, '_>) -> Result<(), AllocError> {
+        let Some(newest) = self.open.last() else {
+            return Ok(());
         };
-        let Some(passed) = next_place(&approach.subject, approach.packet, at) else {
+        let chain = newest.place;
+        let start = number_at(self.far.as_slice(), chain).saturating_sub(1);
+        let Some(passed) = newest.rows.next(start) else {
             put_at(&mut self.far, chain, usize::MAX);
             put_at(&mut self.back, chain, 1);
             let _done = self.open.pop();
@@ -169,7 +189,7 @@ impl Before {
             Turn::Stays => {
                 let _done = self.open.pop();
             }
-            Turn::Enters(place) => self.open_at(place)?,
+            Turn::Enters(place) => self.open_at(approach, place)?,
             Turn::Ends => self.end(),
         }
         Ok(())
@@ -178,18 +198,18 @@ impl Before {
     // Goes through a chain, and through those to which it leads, as far as the packet may.
     pub(crate) fn spread(
         &mut self,
-        approach: &Approach<'_, '_, '_>,
+        approach: &Approach<'s, '_, '_>,
         place: usize,
     ) -> Result<(), AllocError> {
         if number_at(self.far.as_slice(), place) > 0 {
             return Ok(());
         }
-        self.open_at(place)?;
+        self.open_at(approach, place)?;
         for _ in 0..LIMIT {
-            let Some(chain) = self.open.last().copied() else {
+            if self.open.is_empty() {
                 return Ok(());
-            };
-            self.step(approach, chain)?;
+            }
+            self.step(approach)?;
         }
         self.end();
         Ok(())

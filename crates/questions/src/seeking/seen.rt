@@ -3,7 +3,6 @@ ghost use Rattle.std.specs.Prelude.{◌≡◌, false, IsTrue, MatchOption};
 ghost use Rattle.rules.specs.Boxed.{IsBoxOf};
 ghost use Rattle.questions.specs.steps.Straying.{Decides, TakesOut};
 
-use crate::boxes::matched::has;
 use crate::boxes::rule_box::RuleBox;
 use crate::foreign::need::Need;
 use crate::foreign::subject::Subject;
@@ -51,7 +50,7 @@ impl<'a> Seen<'a> {
         requires { IsAtHook packet.now }
         ensures { result ≡ matches packet.now.values self.now.rule.now }
     {
-        has(self.own.boxed().spans(), packet) && cross(self.rule, packet)
+        self.own.has(packet) && cross(self.rule, packet)
     }
 }
 

@@ -2,12 +2,11 @@
 use crate::foreign::answers::Answers;
 use crate::foreign::need::{Need, Standing, known_of};
 use crate::foreign::subject::Subject;
-use crate::seeking::before::{Approach, Before, next_place};
-use crate::seeking::calls::place_named;
+use crate::seeking::before::{Approach, Before, rows_at};
 use crate::seeking::seen::Seen;
 use crate::seeking::way::Way;
 use crate::walking::engine::LIMIT;
-use crate::walking::task::Pending;
+use classify::CandidateRows;
 use fields::Packet;
 use rules::{Target, cross};
 use std::alloc::{AllocError, Global};
@@ -29,22 +28,28 @@ enum Turn {
     Strays,
 }
 
-// What is left of a chain, and how many of the rules that led off the way lead there.
-#[derive(Clone, Copy)]
-struct Rest {
-    at: Pending,
+// What is left of a chain behind so many of its rules, which rules there have the packet in their boxes, and how many of the rules that led off
+// the way lead there.
+#[derive(Drop)]
+struct Rest<'s> {
+    chain: usize,
+    passed: usize,
+    rows: CandidateRows<'s>,
     led: usize,
 }
 
-// A walk under way: what is left of its chains, the rules that led off the way into the present one, how many places of the way it took, the
-// answers, and where the packet may be in the chains that it passed by.
+// A packet's walk under way to a rule: what is left of its chains, the rules that led off the way into the present one, how many places of the
+// way it took, the answers, and where the packet may be in the chains that it passed by.
 #[derive(Drop)]
-struct Walker {
-    rests: Vec<Rest>,
+struct Walker<'s, 'p> {
+    subject: Subject<'s>,
+    packet: &'p Packet,
+    way: &'p Way,
+    rests: Vec<Rest<'s>>,
     path: Vec<Step>,
     taken: usize,
     answers: Answers,
-    before: Before,
+    before: Before<'s>,
 }
 
 // What an open need of a condition has to be answered, so that it fails.
@@ -57,10 +62,10 @@ fn failing(needs: &[Need], condition: usize) -> bool {
     false
 }
 
-impl Walker {
-    // Whether all holds that a rule needs. Where that is open, it is answered so that it doesn't.
-    fn meets(&mut self, needs: &[Need]) -> Result<bool, AllocError> {
-        match known_of(needs, &self.answers) {
+impl<'s, 'p> Walker<'s, 'p> {
+    // Whether all holds that a rule needs, of which so much is known. Where that is open, it is answered so that it doesn't.
+    fn meets(&mut self, needs: &[Need], known: Standing) -> Result<bool, AllocError> {
+        match known {
             Standing::Holds => Ok(true),
             Standing::Fails => Ok(false),
             Standing::Open(condition) => {
@@ -71,118 +76,118 @@ impl Walker {
     }
 
     // Whether a rule is the next place of the way, on which the walk still is.
-    fn is_next(&self, way: &Way, by: Step) -> bool {
-        self.path.is_empty() && by == way.place_after(self.taken)
+    fn is_next(&self, by: Step) -> bool {
+        self.path.is_empty() && by == self.way.place_after(self.taken)
     }
 
-    // Whether a jump off the way can be passed by: the packet gets no verdict where it leads, so that it comes back, or to the rule.
-    fn passes_by(
-        &mut self,
-        subject: &Subject<'_>,
-        packet: &Packet,
-        way: &Way,
-        seen: &Seen<'_>,
-        by: Step,
-    ) -> Result<bool, AllocError> {
-        if !matches!(seen.rule.target(), Some(Target::Jump(_))) || self.is_next(way, by) {
+    // Whether a jump off the way to the chain at a place can be passed by: the packet gets no verdict where it leads, so that it comes back, or to
+    // the rule.
+    fn passes_by(&mut self, by: Step, place: Option<usize>) -> Result<bool, AllocError> {
+        let Some(chain) = place else {
+            return Ok(false);
+        };
+        if self.is_next(by) {
             return Ok(false);
         }
-        let Some(place) = place_named(&subject.boxed.table, seen.rule.target()) else {
-            return Ok(false);
-        };
         let approach = Approach {
-            subject: *subject,
-            packet,
+            subject: self.subject,
+            packet: self.packet,
             answers: &self.answers,
-            wanted: way.wanted,
+            wanted: self.way.wanted,
         };
-        self.before.spread(&approach, place)?;
-        Ok(!self.before.ends_in(place))
+        self.before.spread(&approach, chain)?;
+        Ok(!self.before.ends_in(chain))
     }
 
-    // What is left of a chain waits.
-    fn wait(&mut self, chain: usize, passed: usize) -> Result<(), AllocError> {
-        let at = Pending { chain, passed };
-        let led = self.path.len();
-        self.rests.push(Rest { at, led })?;
+    // The walk goes on at the first rule of a chain.
+    fn begin(&mut self, chain: usize) -> Result<(), AllocError> {
+        if let Some(rows) = rows_at(&self.subject, self.packet, chain) {
+            self.rests.push(Rest {
+                chain,
+                passed: 0,
+                rows,
+                led: self.path.len(),
+            })?;
+        }
         Ok(())
     }
 
     // A rule enters a chain: on the way, if it is the way's next place.
-    fn enter(&mut self, way: &Way, by: Step, place: Option<usize>) -> Result<Turn, AllocError> {
+    fn enter(&mut self, by: Step, place: Option<usize>) -> Result<Turn, AllocError> {
         let Some(chain) = place else {
             return Ok(Turn::On);
         };
-        if self.is_next(way, by) {
+        if self.is_next(by) {
             self.taken = self.taken.saturating_add(1);
         } else {
             self.path.push(by)?;
         }
-        self.wait(chain, 0)?;
+        self.begin(chain)?;
         Ok(Turn::On)
     }
 
     // What a rule makes of the walk, which matches but for its needs and isn't the one that is sought.
-    fn take(
-        &mut self,
-        subject: &Subject<'_>,
-        packet: &Packet,
-        way: &Way,
-        seen: &Seen<'_>,
-        by: Step,
-    ) -> Result<Turn, AllocError> {
+    fn take(&mut self, seen: &Seen<'_>, by: Step) -> Result<Turn, AllocError> {
+        let known = known_of(seen.needs, &self.answers);
+        if matches!(known, Standing::Fails) {
+            return Ok(Turn::On);
+        }
+        let subject = self.subject;
         let target = seen.rule.target();
-        if matches!(target, Some(Target::Log) | None)
-            || self.passes_by(subject, packet, way, seen, by)?
-            || !self.meets(seen.needs)?
-        {
-            self.wait(by.chain, by.number)?;
+        let place = match &target {
+            Some(Target::Jump(name) | Target::Goto(name)) => {
+                subject.boxed.table.index_of(name.bytes())
+            }
+            _ => None,
+        };
+        let is_passed = match &target {
+            Some(Target::Log) | None => true,
+            Some(Target::Jump(_)) => self.passes_by(by, place)?,
+            _ => false,
+        };
+        if is_passed || !self.meets(seen.needs, known)? {
             return Ok(Turn::On);
         }
         let is_on_way = self.path.is_empty();
-        let place = place_named(&subject.boxed.table, seen.rule.target());
         match target {
-            Some(Target::Jump(_)) => {
-                self.wait(by.chain, by.number)?;
-                self.enter(way, by, place)
+            Some(Target::Jump(_)) => self.enter(by, place),
+            Some(Target::Goto(_)) if !is_on_way || self.is_next(by) => {
+                let _left = self.rests.pop();
+                self.enter(by, place)
             }
-            Some(Target::Goto(_)) if !is_on_way || by == way.place_after(self.taken) => {
-                self.enter(way, by, place)
+            Some(Target::Return) if !is_on_way => {
+                let _left = self.rests.pop();
+                Ok(Turn::On)
             }
-            Some(Target::Return) if !is_on_way => Ok(Turn::On),
             _ => Ok(Turn::Strays),
         }
     }
 
     // One step of the walk: the rule that led it away or was sought, if it is at an end.
-    fn step(
-        &mut self,
-        subject: &Subject<'_>,
-        packet: &Packet,
-        way: &Way,
-    ) -> Result<(Turn, Option<Step>), AllocError> {
-        let Some(Rest { at, led }) = self.rests.pop() else {
+    fn step(&mut self) -> Result<(Turn, Option<Step>), AllocError> {
+        let Some(rest) = self.rests.last_mut() else {
             return Ok((Turn::Strays, None));
         };
-        self.path.truncate(led);
-        let Some(passed) = next_place(subject, packet, at) else {
+        self.path.truncate(rest.led);
+        let Some(passed) = rest.rows.next(rest.passed) else {
+            let _left = self.rests.pop();
             return Ok((Turn::On, None));
         };
+        rest.passed = passed.saturating_add(1);
         let by = Step {
-            chain: at.chain,
-            number: passed.saturating_add(1),
+            chain: rest.chain,
+            number: rest.passed,
         };
-        let Some(seen) = Seen::at(*subject, by) else {
+        let Some(seen) = Seen::at(self.subject, by) else {
             return Ok((Turn::On, None));
         };
-        if !cross(seen.rule, packet) {
-            self.wait(by.chain, by.number)?;
+        if !cross(seen.rule, self.packet) {
             return Ok((Turn::On, None));
         }
-        if by == way.wanted {
+        if by == self.way.wanted {
             return Ok((Turn::Comes, Some(by)));
         }
-        let turn = self.take(subject, packet, way, &seen, by)?;
+        let turn = self.take(&seen, by)?;
         Ok((turn, Some(by)))
     }
 }
@@ -197,15 +202,18 @@ pub(crate) fn steer(
     budget: usize,
 ) -> Result<Ending, AllocError> {
     let mut walker = Walker {
+        subject: *subject,
+        packet,
+        way,
         rests: Vec::new(alloc),
         path: Vec::new(alloc),
         taken: 0,
         answers,
         before: Before::nowhere(alloc, subject.boxed.table.chain_count())?,
     };
-    walker.wait(way.chain(), 0)?;
+    walker.begin(way.chain())?;
     for _ in 0..LIMIT.min(budget) {
-        let (turn, by) = walker.step(subject, packet, way)?;
+        let (turn, by) = walker.step()?;
         match turn {
             Turn::On => {}
             Turn::Comes => return Ok(Ending::Comes(walker.answers)),

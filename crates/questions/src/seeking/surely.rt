@@ -1,5 +1,7 @@
 //! Whether a packet surely comes to a rule: all that it may meet before leaves it where it may be.
-ghost use Rattle.std.specs.Prelude.{◌≡◌, ◌<◌, length, slice_index, IfOk, IsTrue};
+ghost use Rattle.std.specs.Prelude.{◌≡◌, ◌⊎◌, ◌<◌, true, false, length, slice_index, IfOk, IsTrue};
+ghost use Rattle.rules.specs.rule.Actions.{target_of};
+ghost use Rattle.rules.specs.rule.Allows.{matches};
 ghost use Rattle.questions.specs.Ends.{IsRule};
 ghost use Rattle.questions.specs.Foreign.{Agrees, Assignment};
 ghost use Rattle.questions.specs.Leaves.{entry_of};
@@ -19,7 +21,7 @@ use std::alloc::{AllocError, Global};
 use table::{Step, Table};
 
 // Whether a rule that matches leaves the packet where it may be.
-fn leaves_there(table: &Table, before: &Before, by: Step, target: Option<Target>) -> bool
+fn leaves_there(table: &Table, before: &Before<'_>, by: Step, target: Option<Target>) -> bool
     requires far { length before.now.far.items ≡ length table.now.table.chains }
     requires back { length before.now.back.items ≡ length table.now.table.chains }
     requires there { by.chain < length table.now.table.chains }
@@ -43,8 +45,26 @@ fn leaves_there(table: &Table, before: &Before, by: Step, target: Option<Target>
     }
 }
 
+// Whether a rule, of which all holds that it needs, leaves the packet where it may be, or is the wanted one.
+fn stays_by(approach: &Approach<'_, '_, '_>, before: &Before<'_>, seen: &Seen<'_>, by: Step) -> bool
+    requires can { IsAtHook approach.now.packet.now }
+    requires far { length before.now.far.items ≡ length (table_of approach.now.subject).chains }
+    requires back { length before.now.back.items ≡ length (table_of approach.now.subject).chains }
+    requires there { by.chain < length (table_of approach.now.subject).chains }
+    ensures passed { IsTrue result → matches approach.now.packet.now.values seen.now.rule.now ≡ false → by.number < slice_index before.now.far.items by.chain }
+    ensures matched { IsTrue result → matches approach.now.packet.now.values seen.now.rule.now ≡ true
+        → (by ≡ approach.now.wanted) ⊎ LeavesThere (number_of (table_of approach.now.subject).chains before.now.far.items) (number_of (table_of approach.now.subject).chains before.now.back.items)
+        (slice_index before.now.far.items by.chain) (slice_index before.now.back.items by.chain) by.number (target_of seen.now.rule.now) }
+{
+    if !seen.matches(approach.packet) {
+        return by.number < before.far[by.chain];
+    }
+    let table = &approach.subject.boxed.table;
+    by == approach.wanted || leaves_there(table, before, by, seen.rule.target())
+}
+
 // Whether a rule leaves the packet where it may be, or is the wanted one.
-fn is_met(approach: &Approach<'_, '_, '_>, before: &Before, by: Step) -> bool
+fn is_met(approach: &Approach<'_, '_, '_>, before: &Before<'_>, by: Step) -> bool
     requires can { IsAtHook approach.now.packet.now }
     requires far { length before.now.far.items ≡ length (table_of approach.now.subject).chains }
     requires back { length before.now.back.items ≡ length (table_of approach.now.subject).chains }
@@ -55,20 +75,15 @@ fn is_met(approach: &Approach<'_, '_, '_>, before: &Before, by: Step) -> bool
         return false;
     };
     let goes_on = by.number < before.far[by.chain];
-    if !seen.matches(approach.packet) {
-        return goes_on;
-    }
-    let table = &subject.boxed.table;
-    let stays = by == approach.wanted || leaves_there(table, before, by, seen.rule.target());
     match known_of(seen.needs, approach.answers) {
-        Standing::Holds => stays,
         Standing::Fails => goes_on,
-        Standing::Open(_) => goes_on && stays,
+        Standing::Holds => stays_by(approach, before, &seen, by),
+        Standing::Open(_) => goes_on && stays_by(approach, before, &seen, by),
     }
 }
 
 // Whether each rule of the chain at a place does, and its end.
-fn are_met(approach: &Approach<'_, '_, '_>, before: &Before, place: usize) -> bool
+fn are_met(approach: &Approach<'_, '_, '_>, before: &Before<'_>, place: usize) -> bool
     requires can { IsAtHook approach.now.packet.now }
     requires far { length before.now.far.items ≡ length (table_of approach.now.subject).chains }
     requires back { length before.now.back.items ≡ length (table_of approach.now.subject).chains }
@@ -90,7 +105,7 @@ fn are_met(approach: &Approach<'_, '_, '_>, before: &Before, place: usize) -> bo
 }
 
 // Whether those of all chains do.
-fn are_all_met(approach: &Approach<'_, '_, '_>, before: &Before) -> bool
+fn are_all_met(approach: &Approach<'_, '_, '_>, before: &Before<'_>) -> bool
     requires can { IsAtHook approach.now.packet.now }
     requires far { length before.now.far.items ≡ length (table_of approach.now.subject).chains }
     requires back { length before.now.back.items ≡ length (table_of approach.now.subject).chains }
@@ -105,7 +120,7 @@ fn are_all_met(approach: &Approach<'_, '_, '_>, before: &Before) -> bool
 }
 
 // Whether a packet is known to come to a rule, if its walk isn't too long, where the answers are right and whatever else holds. It takes a look at each rule that
-// the packet may meet before, twice, and no memory but three numbers a chain.
+// the packet may meet before, twice, and the memory of three numbers a chain, and of the rows of those that lead one to another.
 fn comes_surely(alloc: Global, approach: &Approach<'_, '_, '_>) -> Result<bool, AllocError>
     requires can { IsAtHook approach.now.packet.now }
     requires wanted { IsRule (table_of approach.now.subject) approach.now.wanted }

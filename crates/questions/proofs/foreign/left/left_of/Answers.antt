@@ -1,4 +1,4 @@
-use Rattle.std.proofs.Common.{◌≡◌, ◌∙◌, false, not, [], ◌∷◌, get_or, Vec, Global, ap, arith}
+use Rattle.std.proofs.Common.{◌∙◌, get_or, Vec, Global, ap, arith}
 use Rattle.std.proofs.lemmas.List.{take_all}
 use Rattle.std.proofs.lemmas.Result.{IfOk-weaker}
 use Rattle.questions.specs.Foreign.{all_hold}
@@ -33,13 +33,9 @@ loop-need-preserved c =
 pub returns-then-holds-need-clause-alike : goal.returns-then-holds-need-clause-alike
 returns-then-holds-need-clause-alike c =
     let needs = c.args.needs.now in
-    let i = c.loop-need.need-index in
-    let never : Need = record { condition = c.first_condition-condition.result; inverted = false } in
-    IfOk-weaker c.unmeetable.result (λ (both : Vec Need Global). both.items ≡ never ∷ record { condition = never.condition; inverted = not never.inverted } ∷ []) (λ (left : Vec Need Global). AreAlike c.args.answers.now needs left.items)
-    (λ both is a agrees. rw is (unmet_alike a c.args.answers.now needs i _ never c.in-Some.holds c.loop-need-test.true agrees c.in-Some.ensures.answered c.if-holds-need.true)) c.unmeetable.ensures
+    IfOk-weaker c.unmeetable.result _ (λ (left : Vec Need Global). AreAlike c.args.answers.now needs left.items)
+    (λ both is a agrees. rw is (unmet_alike a c.args.answers.now needs c.loop-need.need-index _ _ c.in-Some.holds c.loop-need-test.true agrees c.in-Some.ensures.answered c.if-holds-need.true)) c.unmeetable.ensures
 
 pub returns-then-holds-need-clause-free : goal.returns-then-holds-need-clause-free
 returns-then-holds-need-clause-free c =
-    let never : Need = record { condition = c.first_condition-condition.result; inverted = false } in
-    IfOk-weaker c.unmeetable.result (λ (both : Vec Need Global). both.items ≡ never ∷ record { condition = never.condition; inverted = not never.inverted } ∷ []) (λ (left : Vec Need Global). AreFree c.args.answers.now left.items)
-    (λ both is. rw is (free_never c.args.answers.now never)) c.unmeetable.ensures
+    IfOk-weaker c.unmeetable.result _ (λ (left : Vec Need Global). AreFree c.args.answers.now left.items) (λ both is. rw is (free_never c.args.answers.now _)) c.unmeetable.ensures

@@ -17,7 +17,10 @@ returns-in-None-found c =
     let Found : Option ℕ → Type 0 = IsSoFar c.args.needs.now c.args.answers.now c.loop-need.need-index in
     all_are_met c.args.needs.now c.args.answers.now c.loop-need.need-index c.loop-need-test.false (subst Found c.in-None-found.is c.loop-need.invariant)
 
-pub returns-in-Some-found : goal.returns-in-Some-found
-returns-in-Some-found c =
+pub returns-else-are_contrary : goal.returns-else-are_contrary
+returns-else-are_contrary c =
     let Found : Option ℕ → Type 0 = IsSoFar c.args.needs.now c.args.answers.now c.loop-need.need-index in
     one_is_open c.args.needs.now c.args.answers.now c.loop-need.need-index c.in-Some-found.condition c.loop-need-test.false (subst Found c.in-Some-found.is c.loop-need.invariant)
+
+pub returns-then-are_contrary : goal.returns-then-are_contrary
+returns-then-are_contrary c = λ a agrees. c.are_contrary.ensures c.if-are_contrary.true a

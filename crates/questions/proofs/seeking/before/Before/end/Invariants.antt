@@ -1,4 +1,4 @@
 use Rattle.questions.proofs.seeking.before.Before.end.Given as goal
 
-abbrev pub decreases-loop-place : goal.decreases-loop-place
-decreases-loop-place l = goal.left-loop-place l
+abbrev pub decreases-loop-open : goal.decreases-loop-open
+decreases-loop-open l = goal.left-loop-open l

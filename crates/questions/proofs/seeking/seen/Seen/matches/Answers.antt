@@ -1,6 +1,5 @@
 use Rattle.std.proofs.Common.{◌≡◌, ◌∙◌, ap, sym, true, false}
 use Rattle.std.specs.Prelude.{◌&&◌}
-use Rattle.rules.specs.Boxed.{IsBoxOf}
 use Rattle.rules.specs.rule.Allows.{allows_each}
 use Rattle.rules.specs.rule.Crossing.{cross}
 use Rattle.questions.proofs.laws.AreaLaws.{box_of_rule}
@@ -11,8 +10,7 @@ use Rattle.questions.proofs.seeking.seen.Seen.matches.Goals as goal
 allowed : (c : After-has) → c.has.result ≡ allows_each c.args.packet.now.values c.args.self.now.rule.now
 allowed c =
     let seen = c.args.self.now in
-    let boxed : IsBoxOf seen.rule.now c.spans.result.now = rw (c.spans.ensures.value, c.boxed.ensures) seen.boxed in
-    c.has.ensures ∙ box_of_rule seen.rule.now c.spans.result.now c.args.packet.now.values boxed c.requires.packet.within
+    c.has.ensures ∙ box_of_rule seen.rule.now seen.own.now c.args.packet.now.values seen.boxed c.requires.packet.within
 
 pub returns-then-has : goal.returns-then-has
 returns-then-has c =
