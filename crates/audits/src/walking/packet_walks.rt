@@ -19,11 +19,11 @@ fn branches_of<R: Clock, E: Print + IsTerminal>(
 ) -> Result<Option<Vec<Branch>>, AllocError> {
     if !dump.is_plain() {
         if let Some(branches) = ends_of(asking, dump, open, packet)? {
-            return Ok(joined(branches));
+            return joined(asking.alloc(), branches);
         }
     }
     match walks_of(asking, dump, open, packet, &[])? {
-        Some(walks) => Ok(joined(branches_among(asking.alloc(), walks)?)),
+        Some(walks) => joined(asking.alloc(), branches_among(asking.alloc(), walks)?),
         None => Ok(None),
     }
 }
