@@ -20,8 +20,9 @@ nothing: in a small table and in a larger one. Blank lines, comments and lines t
 
 The gate plays cases in which each kind of line, command, option, match, target and fault comes twice at least, if it comes
 in two cases of 200 lines at most: the same each time. With `--refuse all` all are played; of a longer case it isn't each allocation that is refused, but
-one of so many that some 40 runs are made, and of its table is shown what `-S` lists. With `--refuse none` all are played, and no allocation is refused.
-`--cases WORD` plays the cases whose file or name has the word. It doesn't refuse two allocations in one run, nor those of words that name no task, which tests/memory/starved does.
+one of so many that some 40 runs are made, and each of its last command; of its table is shown what `-S` lists. With `--refuse none` all are
+played, and no allocation is refused. `--cases WORD` plays the cases whose file or name has the word, and the frugal lines that have it. It doesn't
+refuse two allocations in one run, nor those of words that name no task, which tests/memory/starved does.
 """
 
 import collections
@@ -77,13 +78,15 @@ FRUGAL = [
     (b"packet INPUT src=1.1.1.1 dst=1.1.1.1", b"packed INPUT src=1.1.1.1 dst=1.1.1.1"),
     (b"packet INPUT src=9.1.1.1 dst=1.1.1.1 proto=47", b"packed INPUT src=9.1.1.1 dst=1.1.1.1 proto=47"),
 ]
-RULES_BEFORE = 1, 70
+# After the more of them each row of the chain has room for 64 bits.
+RULES_BEFORE = 1, 192
 
 # Lines that take no memory at all.
 TAKE_NONE = b"", b" \t", b"# x", b"x" * 10_241, b"#" * 10_241
 
 # A table with rules of each match and target, their options and inversions, which a restore copies: in the cases most tables that are
-# copied have few rules. The interfaces of FORWARD share a cut.
+# copied have few rules. The interfaces of FORWARD share a cut. The rule that is put in the place of another takes memory for its
+# ports after a cut of them.
 COPIED = Play("a table with all kinds of rules, copied", ("session",), rb"""iptables -N a
 iptables -N b
 iptables -A INPUT ! -s 10.0.0.0/8 -i eth+ -p tcp -m tcp --dport 22:80 --tcp-flags SYN,ACK SYN -j a
@@ -93,13 +96,17 @@ iptables -A a -m iprange ! --src-range 1.1.1.1-2.2.2.2 -m conntrack --ctstate NE
 iptables -A FORWARD -i eth+
 iptables -A FORWARD -i eti+ -f
 iptables -A FORWARD -i lo -j b
-iptables -R FORWARD 3 -i lo+ -p udp -g a
+iptables -R FORWARD 3 -i lo+ -p udp -m multiport --dports 1,3 -g a
 iptables-restore -n <<END
 *filter
 -A b ! -f -j RETURN
 COMMIT
 END
 iptables-save
+""", None)
+# The last rule takes memory for wider rows, of which some aren't kept by a part: the packet is looked up in one of these.
+WIDENED = Play("rows are widened twice", ("session",), b"iptables -A INPUT -p tcp\niptables -A INPUT -p udp\n" * 256 + b"""iptables -A INPUT -p tcp
+packet INPUT src=1.1.1.1 dst=1.1.1.1 proto=17 sport=1 dport=1
 """, None)
 
 # Ends a test whose run isn't as is due, and says how, without the way to it.
@@ -216,10 +223,18 @@ class Refusals:
                 differs(f"faults: {self.name}: allocation {number} refused, {' '.join(self.played.words)}: a line takes memory, and goes "
                         f"on without it: line {self.last} or a later one")
 
-    def is_in_start(self, number):
-        """Whether an allocation is taken before any line."""
+    def is_before(self, line, number):
+        """Whether an allocation is taken before a line of the input."""
         self.program.refuse(number)
-        return self.run()[0] == BEFORE_ANY_LINE
+        came, refused = self.run()
+        return came == BEFORE_ANY_LINE or refused is not None and refused < line
+
+    def in_line(self, line):
+        """A run with each allocation of a line refused."""
+        self.give(line)
+        number = first_not(functools.partial(self.is_before, line))
+        while self.last == line and not self.refuse(number):
+            number += 1
 
     def none(self):
         self.program.refuse(BUILT_FOR)
@@ -235,6 +250,9 @@ class Refusals:
             if self.last is None:
                 self.first = number
             number += step
+        commands = [at for at, line in enumerate(self.played.lines, 1) if line.startswith(b"iptables -")]
+        if step > 1 and commands and self.played.end < math.inf:
+            self.in_line(commands[-1])
         if not self.refused and any(self.played.due(self.data, number) != self.due(None) for number in range(1, len(self.played.lines) + 1)):
             differs(f"faults: {self.name}: no allocation was refused")
 
@@ -261,7 +279,7 @@ def play_all(path, plays, refuse):
             continue
         if firsts and play.file is None and play.words not in firsts:
             # (the last allocation of the program's start comes first)
-            runs.first = max(1, first_not(runs.is_in_start) - 1)
+            runs.first = max(1, first_not(functools.partial(runs.is_before, 1)) - 1)
         runs.all()
         if play.file is None:
             firsts[play.words] = runs.first
@@ -300,7 +318,7 @@ def plays(words, refuse):
     lines, size = (LONG, MOST) if refuse == "some" and not words else (None, None)
     cases = [case for case in all_cases(words, lines) if size is None or size_of(case) <= size]
     found = [play for case in cases for play in plays_of(case)]
-    more = [COPIED] if not words or any(word in COPIED.name for word in words) else []
+    more = [play for play in (COPIED, WIDENED) if not words or any(word in play.name for word in words)]
     return more + (chosen(found, LEAST) if refuse == "some" and not words else found)
 
 
@@ -319,10 +337,10 @@ def test_refused(part, iptsim, cases, refuse):
 @pytest.mark.parametrize("lines", [*FRUGAL, *TAKE_NONE], ids=lambda lines: repr(lines if isinstance(lines, bytes) else lines[0])[2:50])
 def test_frugal(lines, rules, iptsim, cases, refuse):
     """How often a frugal line takes memory, in a small table and in a larger one."""
-    if cases or refuse == "none":
-        pytest.skip("cases alone are asked for")
-    frugal = Frugal(iptsim.path, rules)
     line, other = (lines, None) if isinstance(lines, bytes) else lines
+    if refuse == "none" or cases and not any(word.encode() in line for word in cases):
+        pytest.skip("others are asked for")
+    frugal = Frugal(iptsim.path, rules)
     taken, due = frugal.count(line), frugal.count(other) if other else 0
     if taken != due or other and not due:
         asked = f"and `{other.decode()}` {due} times" if other else "and needs none"
