@@ -9,9 +9,9 @@ pub(crate) mod progress;
 use crate::asking::progress::Progress;
 use fields::{Field, Hook};
 use questions::{
-    Answers, BoxedTable, Changes, End, Given, Leaf, Life, Likeness, Reached, Reason, Subject,
-    WrittenPacket, changes_under, compare_at_under, dead_under, ends, life_under, reach, walks,
-    why_dead_under,
+    Answers, BoxedTable, Changes, Coming, End, Given, Leaf, Life, Likeness, Reached, Reason,
+    Subject, WrittenPacket, changes_under, comes, compare_at_under, dead_under, ends, life_under,
+    reach, walks, why_dead_under,
 };
 use std::alloc::{AllocError, Global};
 use std::io::IsTerminal;
@@ -88,6 +88,24 @@ impl<'a, R: Clock, E: Print + IsTerminal> Asking<'a, R, E> {
         requires last { at.number ≤ length (chain_at (table_of subject.now) at.chain).rules }
     {
         dead_under(self.alloc, subject, at.chain, at.number, self.steps)
+    }
+
+    /// Whether a packet comes to a rule (`comes`).
+    ///
+    /// # Errors
+    ///
+    /// `AllocError` where memory was refused.
+    pub(crate) fn coming(
+        &self,
+        subject: &Subject<'_>,
+        packet: &WrittenPacket,
+        at: Step,
+    ) -> Result<Coming, AllocError>
+        requires place { at.chain < length (table_of subject.now).chains }
+        requires first { 0 < at.number }
+        requires last { at.number ≤ length (chain_at (table_of subject.now) at.chain).rules }
+    {
+        comes(self.alloc, subject, packet, at, self.steps)
     }
 
     /// Why a rule is dead, if that is known (`why_dead_under`).

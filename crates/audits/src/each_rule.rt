@@ -11,7 +11,7 @@ use crate::asking::Asking;
 use crate::each_rule::known::{Form, Found, FoundRule, Inquiry, Known};
 use crate::each_rule::tally::Tally;
 use questions::{Answers, Life, Need, Reason, Subject};
-use rulesets::contradict;
+use rulesets::{OpenConditions, contradict};
 use std::alloc::{AllocError, Global};
 use std::io::IsTerminal;
 use std::rt::Clock;
@@ -71,7 +71,22 @@ fn put_in_order(reason: &mut Reason, place: usize) {
     rules.sort_unstable_by_key(|rule| (rule.chain != place, rule.chain, rule.number));
 }
 
-// The answers under which a rule is live, in the order of their conditions. None are where it is asked which rules are dead: there it isn't shown.
+/// What is shown of answers, in the order of their conditions.
+///
+/// # Errors
+///
+/// `AllocError` where memory was refused.
+pub(crate) fn shown_in_order(
+    alloc: Global,
+    open: &OpenConditions,
+    answers: &Answers,
+) -> Result<Vec<Need>, AllocError> {
+    let mut given = open.shown(alloc, answers)?;
+    given.sort_unstable_by_key(|need| need.condition);
+    Ok(given)
+}
+
+// The answers under which a rule is live. None are where it is asked which rules are dead: there it isn't shown.
 fn shown_of(
     alloc: Global,
     inquiry: Inquiry<'_>,
@@ -80,9 +95,7 @@ fn shown_of(
     if matches!(inquiry.form, Form::Dead) {
         return Ok(Vec::new(alloc));
     }
-    let mut given = inquiry.open.shown(alloc, answers)?;
-    given.sort_unstable_by_key(|need| need.condition);
-    Ok(given)
+    shown_in_order(alloc, inquiry.open, answers)
 }
 
 // Asks of a rule. One that a packet matches that was given needn't be asked of.

@@ -1,57 +1,61 @@
 //! A packet marks the rules that it matches.
-pub(crate) mod covering_answers;
 pub(crate) mod marks;
 pub(crate) mod possible;
 
 use crate::asking::Asking;
-use crate::marking::covering_answers::{all_have, fewest_answers};
+use crate::each_rule::shown_in_order;
 use crate::marking::marks::Marks;
-use crate::marking::possible::mark_possible;
-use crate::walking::walk::{Passed, Walk};
-use crate::walking::walks_of;
-use questions::WrittenPacket;
+use crate::marking::possible::possible_rules;
+use questions::{Coming, WrittenPacket};
 use rulesets::{Dump, OpenConditions};
 use std::alloc::{AllocError, Global};
 use std::io::IsTerminal;
 use std::rt::Clock;
+use table::Step;
 
-// Marks those of some rules that a packet of these walks matches whichever answers are right.
-fn mark_always(marks: &mut Marks, alloc: Global, walks: &[Walk], rules: &[Passed]) {
-    for rule in rules {
-        if all_have(walks, rule.at, &[]) {
-            marks.mark(rule.at, Vec::new(alloc));
-        }
-    }
-}
-
-// Marks the rules on one of the walks of a packet that aren't marked yet.
-fn mark_under(
-    marks: &mut Marks,
+// Marks the rules on the walk of a packet in a dump whose rules need nothing.
+fn mark_walk(
     alloc: Global,
-    walks: &[Walk],
-    walk: &Walk,
+    dump: &Dump,
+    packet: &WrittenPacket,
+    marks: &mut Marks,
 ) -> Result<(), AllocError> {
-    for rule in walk.rules.as_slice() {
-        if marks.given(rule.at).is_none() {
-            marks.mark(rule.at, fewest_answers(alloc, walks, walk, rule)?);
+    let trail = dump.table().trail(packet.packet())?;
+    for at in trail.steps() {
+        marks.mark(*at, Vec::new(alloc));
+    }
+    Ok(())
+}
+
+// Marks a rule that a packet may match, where it does. Whether that is known.
+fn mark_rule<R: Clock, E: Print + IsTerminal>(
+    asking: &Asking<'_, R, E>,
+    dump: &Dump,
+    open: &OpenConditions,
+    packet: &WrittenPacket,
+    at: Step,
+    marks: &mut Marks,
+) -> Result<bool, AllocError> {
+    let subject = dump.subject();
+    let table = &subject.boxed.table;
+    if at.chain >= table.chain_count() || at.number == 0 || at.number > table.rule_count(at.chain) {
+        return Ok(true);
+    }
+    match asking.coming(&subject, packet, at)? {
+        Coming::Never => Ok(true),
+        Coming::Under(answers) => {
+            marks.mark(at, shown_in_order(asking.alloc(), open, &answers)?);
+            Ok(true)
+        }
+        Coming::Unclear => {
+            marks.mark_unclear(at);
+            Ok(false)
         }
     }
-    Ok(())
 }
 
-// Marks the rules on the walks of a packet.
-fn mark_all(marks: &mut Marks, alloc: Global, walks: &[Walk]) -> Result<(), AllocError> {
-    if let Some(first) = walks.first() {
-        mark_always(marks, alloc, walks, first.rules.as_slice());
-    }
-    for walk in walks {
-        mark_under(marks, alloc, walks, walk)?;
-    }
-    Ok(())
-}
-
-/// Marks the rules that a packet matches under some answers. Where its walks aren't known it marks those that it may match as unclear, and that
-/// is told.
+/// Marks the rules that a packet matches under some answers. One of which that isn't known is marked as unclear, and that is told. A rule that is known
+/// to match another packet whichever answers are right isn't asked of again.
 ///
 /// # Errors
 ///
@@ -63,14 +67,15 @@ pub fn mark_packet<R: Clock, E: Print + IsTerminal>(
     packet: &WrittenPacket,
     marks: &mut Marks,
 ) -> Result<bool, AllocError> {
-    match walks_of(asking, dump, open, packet, &[])? {
-        Some(walks) => {
-            mark_all(marks, asking.alloc(), walks.as_slice())?;
-            Ok(true)
-        }
-        None => {
-            mark_possible(asking.alloc(), dump, packet, marks)?;
-            Ok(false)
+    if dump.is_plain() {
+        mark_walk(asking.alloc(), dump, packet, marks)?;
+        return Ok(true);
+    }
+    let mut clear = true;
+    for at in possible_rules(asking.alloc(), dump, packet)? {
+        if !marks.is_always_met(at) && !mark_rule(asking, dump, open, packet, at, marks)? {
+            clear = false;
         }
     }
+    Ok(clear)
 }

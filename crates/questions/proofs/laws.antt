@@ -5,6 +5,7 @@ pub mod BoxesLaws
 pub mod BranchLaws
 pub mod CandidateLaws
 pub mod ChoiceLaws
+pub mod ComingLaws
 pub mod CompareLaws
 pub mod DeleteLaws
 pub mod DifferLaws

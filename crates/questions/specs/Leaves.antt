@@ -1,5 +1,5 @@
 -- Leaves: boxes of packets that all have the same walk.
-use Rattle.std.specs.Prelude.{◌≡◌, ℕ, List, [], map, slice_index_or, All, Any}
+use Rattle.std.specs.Prelude.{◌≡◌, ℕ, List, [], map, slice_index_or, All}
 use Rattle.fields.specs.declared.packet.hook.Hook.{Hook}
 use Rattle.fields.specs.numbers.Spans.{SpanSet}
 use Rattle.fields.specs.Packet.{PacketView as Packet}
@@ -26,11 +26,6 @@ abbrev pub walked_of : List Chain → Leaf → Walked
 walked_of chains leaf =
     record { trail = entries_of chains leaf.trail.items; verdict = leaf.verdict; by_policy = leaf.by_policy }
 
--- the packet is in the leaf's box, and its walk is the one that the leaf shows
-pub record EndsIn (t : Table) (p : Packet) (leaf : Leaf) : Type 0 where
-  pub inside : IsIn leaf.area p
-  pub walked : walk t p ≡ walked_of t.chains leaf
-
 -- if the packet is in the leaf's box, it is in the other box, too, and its walk is the one that the leaf shows
 abbrev pub ShowsWalk : Table → List SpanSet → Packet → Leaf → Type 0
 ShowsWalk t box p leaf = IsIn leaf.area p → IsIn box p × (walk t p ≡ walked_of t.chains leaf)
@@ -38,7 +33,3 @@ ShowsWalk t box p leaf = IsIn leaf.area p → IsIn box p × (walk t p ≡ walked
 -- each packet of a leaf's box that can be at the hook is in the box, and its walk is the one that the leaf shows
 abbrev pub AreExactOn : Table → Hook → List SpanSet → List Leaf → Type 0
 AreExactOn t hook box leaves = (p : Packet) → IsAtHook p → p.hook ≡ hook → All (ShowsWalk t box p) leaves
-
--- each packet of the box that can be at the hook is in some leaf, and its walk is the one that this leaf shows
-abbrev pub AreLeavesOf : Table → Hook → List SpanSet → List Leaf → Type 0
-AreLeavesOf t hook box leaves = (p : Packet) → IsAtHook p → p.hook ≡ hook → IsIn box p → Any (EndsIn t p) leaves

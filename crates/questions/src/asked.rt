@@ -1,6 +1,7 @@
 //! The questions about all packets, and their answers.
 pub(crate) mod alone;
 pub(crate) mod changes;
+pub(crate) mod coming;
 pub(crate) mod compare;
 pub(crate) mod ends;
 pub(crate) mod equal;

@@ -11,8 +11,9 @@ mod seeking;
 mod walking;
 mod written;
 
-pub use asked::changes::{Changes, changes_of, changes_under};
-pub use asked::compare::{compare, compare_at, compare_at_under, compare_under};
+pub use asked::changes::{Changes, changes_under};
+pub use asked::coming::{Coming, comes};
+pub use asked::compare::compare_at_under;
 pub use asked::ends::{End, ends};
 pub use asked::laws::{
     answers_exclude_each_other, changes_elsewhere, changes_off_the_walk, dead_rules_can_go,
@@ -20,8 +21,8 @@ pub use asked::laws::{
 pub use asked::likeness::Likeness;
 pub use asked::reach::{Given, reach};
 pub use asked::reached::Reached;
-pub use asked::reason::{Reason, why_dead, why_dead_under};
-pub use asked::rule::{Life, dead, dead_under, life_under};
+pub use asked::reason::{Reason, why_dead_under};
+pub use asked::rule::{Life, dead_under, life_under};
 pub use asked::takers::Takers;
 pub use asked::walks::walks;
 pub use boxes::area::Area;
@@ -33,7 +34,7 @@ pub use foreign::laws::{answers_can_be_given, conditions_leave_a_table};
 pub use foreign::left::needs_left;
 pub use foreign::need::{Need, Needs};
 pub use foreign::subject::Subject;
-pub use walking::engine::{leaves, leaves_under};
+pub use walking::engine::leaves_under;
 pub use walking::scope::Scope;
 pub use walking::task::Leaf;
 pub use written::WrittenPacket;

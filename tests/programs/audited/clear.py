@@ -10,6 +10,15 @@ POLICIES = b"*filter\n:INPUT DROP [0:0]\n:FORWARD DROP [0:0]\n:OUTPUT ACCEPT [0:
 LOGIN = b"-p tcp -m tcp --dport 22"
 # All packets that are left, and none.
 ENDS = [b"-A INPUT -j ACCEPT", b"-A INPUT -j DROP"]
+PACKET = b"packet INPUT src=10.8.0.1 dst=10.0.0.2 in=eth0 proto=tcp sport=4000 dport=22"
+
+
+def banned(sets):
+    """A jump for each set of banned hosts, to a chain that rejects some of them and comes back."""
+    return (
+        [b"-A INPUT %s -m set --match-set f2b-%d src -j f2b-%d" % (LOGIN, number, number) for number in range(sets)]
+        + [b"-A INPUT %s -j ACCEPT" % LOGIN, b"-A INPUT %s -j DROP" % LOGIN]
+        + [rule % number for number in range(sets) for rule in (b"-A f2b-%d -s 10.9.0.0/24 -j REJECT", b"-A f2b-%d -j RETURN")])
 
 
 # Rulesets, and which of their rules are dead.
@@ -23,10 +32,7 @@ RULESETS = {
         [b"-A INPUT -m limit --limit %d/sec -j k" % number for number in range(1, 13)] + ENDS
         + [b"-A k -s 10.9.0.1 -j DROP", b"-A k -j RETURN", b"-A k -s 10.9.0.2 -j DROP"], [b"INPUT 14", b"k 3"]),
     # Each with a chain that comes back.
-    "sets of banned hosts": (
-        [b"-A INPUT %s -m set --match-set f2b-%d src -j f2b-%d" % (LOGIN, number, number) for number in range(60)]
-        + [b"-A INPUT %s -j ACCEPT" % LOGIN, b"-A INPUT %s -j DROP" % LOGIN]
-        + [rule % number for number in range(60) for rule in (b"-A f2b-%d -s 10.9.0.0/24 -j REJECT", b"-A f2b-%d -j RETURN")], [b"INPUT 62"]),
+    "sets of banned hosts": (banned(60), [b"INPUT 62"]),
     "network cards": (
         [b"-A INPUT -m mac --mac-source 02:00:00:00:00:%02x -j ACCEPT" % number for number in range(60)] + ENDS, [b"INPUT 62"]),
     # And one whose ports another has.
@@ -57,9 +63,18 @@ def test_answers(iptaudit):
 def test_walk(iptaudit):
     """Runs `walk` on sets of banned hosts: a packet of no chain comes back from all 60, whatever the sets have."""
     rules, _dead = RULESETS["sets of banned hosts"]
-    packet = b"packet INPUT src=10.8.0.1 dst=10.0.0.2 in=eth0 proto=tcp sport=4000 dport=22"
-    said = iptaudit.said(["walk", "R"], packet, {"R": dump_of(rules)})
+    said = iptaudit.said(["walk", "R"], PACKET, {"R": dump_of(rules)})
     same([b"  ACCEPT by INPUT 61"], said.splitlines()[1:2])
+
+
+def test_cover(iptaudit):
+    """Runs `cover` on twenty sets of banned hosts: a packet of no chain comes to each jump, and back from there, if its own set has the packet."""
+    rules = banned(20)
+    ended = iptaudit.run(["cover", "R"], {"R": dump_of(rules)}, PACKET)
+    came = re.findall(rb"(?m)^if (\S+ \d+) -A .*\n  if set --match-set f2b-(\d+) src at \S+ \d+$", ended.stdout)
+    due = [(name % number, b"%d" % jail) for jail in range(20) for name, number in ((b"INPUT %d", jail + 1), (b"f2b-%d 2", jail))]
+    counts = b"62 rules, 41 covered (40 if conditions hold), 20 missed, 1 dead, 0 unclear"
+    assert (ended.returncode, sorted(came), counts in ended.stdout.splitlines(), ended.stderr) == (1, sorted(due), True, b"")
 
 
 def dump_of(rules):

@@ -10,13 +10,13 @@ use table::{Step, Table};
 enum Mark {
     // None of them matches it.
     Unmet,
-    // None is known to match it, and one whose walks aren't known may.
+    // None is known to match it, and of one that isn't known.
     Unclear,
     // One matches it where these answers are right; there are none where it does whichever are.
     Met(Vec<Need>),
 }
 
-/// A mark for each rule of a table: whether packets that were given match it; and the lines of the packets whose walks aren't known.
+/// A mark for each rule of a table: whether packets that were given match it; and the lines of the packets of which that isn't known of a rule.
 #[derive(Drop)]
 pub struct Marks {
     // How many rules stand before each chain.
@@ -73,13 +73,27 @@ impl Marks {
         }
     }
 
-    /// Whether no packet is known to match a rule, and one whose walks aren't known may.
+    /// Whether no packet is known to match a rule, and of one that isn't known.
     pub(crate) fn is_unclear(&self, at: Step) -> bool {
         matches!(self.mark_of(at), Some(Mark::Unclear))
     }
 
-    /// Marks a rule that matches a packet where these answers are right; there are none where it does whichever are.
+    /// Whether a rule is known to match a packet whichever answers are right.
+    pub(crate) fn is_always_met(&self, at: Step) -> bool {
+        match self.given(at) {
+            Some(given) => given.is_empty(),
+            None => false,
+        }
+    }
+
+    /// Marks a rule that matches a packet where these answers are right; there are none where it does whichever are. If it is known to match another
+    /// one under as few answers, these stay.
     pub(crate) fn mark(&mut self, at: Step, given: Vec<Need>) {
+        if let Some(known) = self.given(at) {
+            if known.len() <= given.len() {
+                return;
+            }
+        }
         if let Some(place) = self.place_of(at) {
             if place < self.marks.len() {
                 self.marks[place] = Mark::Met(given);
@@ -87,7 +101,7 @@ impl Marks {
         }
     }
 
-    /// Marks a rule that a packet whose walks aren't known may match, unless one is known to match it.
+    /// Marks a rule of which it isn't known whether a packet matches it, unless one is known to match it.
     pub(crate) fn mark_unclear(&mut self, at: Step) {
         if self.given(at).is_some() {
             return;
@@ -99,12 +113,12 @@ impl Marks {
         }
     }
 
-    /// The lines of the packets whose walks aren't known, from 1, in their order; they are lent.
+    /// The lines of the packets of which it isn't known of a rule, from 1, in their order; they are lent.
     pub fn unclear_lines(&self) -> &[u64] {
         self.unclear_lines.as_slice()
     }
 
-    /// Notes the line of a packet whose walks aren't known.
+    /// Notes the line of a packet of which it isn't known of a rule.
     ///
     /// # Errors
     ///

@@ -1,7 +1,6 @@
-//! The rules that a packet may match whose walks aren't known.
+//! The rules that a packet may match, whatever holds.
 ghost use Rattle.std.specs.Prelude.{◌<◌, length};
 
-use crate::marking::marks::Marks;
 use questions::{BoxedTable, WrittenPacket, rule_matches};
 use rules::{Rule, Target};
 use rulesets::{Dump, contradict};
@@ -62,15 +61,15 @@ fn leaves_chain(rule: &Rule) -> bool {
     }
 }
 
-// Marks the rules of a chain that a packet may match which enters it: those that match it, under answers that can be given, up to the first that
+// Adds the rules of a chain that a packet may match which enters it: those that match it, under answers that can be given, up to the first that
 // does under all and leads out of the chain.
-fn mark_in_chain(
+fn add_in_chain(
     dump: &Dump,
     boxed: &BoxedTable,
     packet: &WrittenPacket,
     place: usize,
     entered: &mut Entered,
-    marks: &mut Marks,
+    rules: &mut Vec<Step>,
 ) -> Result<(), AllocError>
     requires { place < length boxed.now.table.table.chains }
 {
@@ -85,7 +84,7 @@ fn mark_in_chain(
             continue;
         }
         let rule = table.rule(place, before + 1);
-        marks.mark_unclear(at);
+        rules.push(at)?;
         entered.follow(table, rule)?;
         if needs.is_empty() && leaves_chain(rule) {
             return Ok(());
@@ -94,28 +93,28 @@ fn mark_in_chain(
     Ok(())
 }
 
-/// Marks the rules that a packet may match whose walks aren't known. It takes time linear in the rules of the chains that the packet may enter.
+/// The rules that a packet may match, whatever holds, chain by chain as it may enter them. It takes time linear in the rules of these chains.
 ///
 /// # Errors
 ///
 /// `AllocError` where memory was refused.
-pub(crate) fn mark_possible(
+pub(crate) fn possible_rules(
     alloc: Global,
     dump: &Dump,
     packet: &WrittenPacket,
-    marks: &mut Marks,
-) -> Result<(), AllocError> {
+) -> Result<Vec<Step>, AllocError> {
     let boxed = dump.boxed();
     let table = &boxed.table;
+    let mut rules = Vec::new(alloc);
     let mut entered = Entered::none(alloc, table)?;
     entered.enter(table, packet.packet().hook().name())?;
     for turn in 0..table.chain_count() {
         let Some(place) = entered.places.get(turn).copied() else {
-            return Ok(());
+            return Ok(rules);
         };
         if place < table.chain_count() {
-            mark_in_chain(dump, boxed, packet, place, &mut entered, marks)?;
+            add_in_chain(dump, boxed, packet, place, &mut entered, &mut rules)?;
         }
     }
-    Ok(())
+    Ok(rules)
 }

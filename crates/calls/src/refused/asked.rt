@@ -7,8 +7,7 @@ use crate::written::{Placed, are_words, has_listing, table_of};
 use fields::{Field, Hook, Interval, Spans, Words};
 use questions::{
     Answers, Area, BoxedTable, Given, Leaf, Life, Likeness, Need, Needs, Reached, Reason, Scope,
-    Subject, compare_at, compare_at_under, dead, dead_under, leaves, leaves_under, reach, why_dead,
-    why_dead_under,
+    Subject, compare_at_under, dead_under, leaves_under, life_under, reach, why_dead_under,
 };
 use rules::Work;
 use std::alloc::{AllocError, Global};
@@ -90,19 +89,24 @@ pub fn boxes(alloc: Global, refusals: &mut Refusals) -> Result<BoxedTable, Troub
 fn known_of(
     alloc: Global,
     refusals: &mut Refusals,
-    subject: &BoxedTable,
+    boxed: &BoxedTable,
     at: Step,
 ) -> Result<(Life, Option<Reason>), Trouble> {
-    let table = &subject.table;
+    let table = &boxed.table;
+    let needs = Needs::none(alloc);
+    let subject = Subject {
+        boxed,
+        needs: &needs,
+    };
     if at.chain < table.chain_count() && 0 < at.number && at.number <= table.rule_count(at.chain) {
         let life = again!(
             refusals,
-            dead(alloc, subject, at.chain, at.number, BUDGET),
+            life_under(alloc, &subject, at.chain, at.number, BUDGET),
             has_listing(alloc, table, REST)?
         );
         let reason = again!(
             refusals,
-            why_dead(alloc, subject, at.chain, at.number, BUDGET),
+            why_dead_under(alloc, &subject, at.chain, at.number, BUDGET),
             has_listing(alloc, table, REST)?
         );
         return Ok((life, reason));
@@ -120,15 +124,15 @@ fn expect_taken_by_first(reason: Option<Reason>) -> Result<(), Trouble> {
     }
 }
 
-/// `dead` and `why_dead`.
-pub fn lives(alloc: Global, refusals: &mut Refusals, subject: &BoxedTable) -> Result<(), Trouble> {
-    let (life, reason) = known_of(alloc, refusals, subject, LAST)?;
+/// `life_under` and `why_dead_under`, where no rule needs anything.
+pub fn lives(alloc: Global, refusals: &mut Refusals, boxed: &BoxedTable) -> Result<(), Trouble> {
+    let (life, reason) = known_of(alloc, refusals, boxed, LAST)?;
     expect(reason.is_none())?;
     match life {
         Life::Live(words, _) => expect(are_to(&words, LAST_PORT))?,
         Life::Dead | Life::Unclear => return Err(Trouble::OtherAnswer),
     }
-    let (life, reason) = known_of(alloc, refusals, subject, DEAD)?;
+    let (life, reason) = known_of(alloc, refusals, boxed, DEAD)?;
     expect(matches!(&life, Life::Dead))?;
     expect_taken_by_first(reason)
 }
@@ -242,17 +246,26 @@ pub fn dead_with(
 fn likeness_to(
     alloc: Global,
     refusals: &mut Refusals,
-    subject: &BoxedTable,
+    own: &BoxedTable,
     other: &BoxedTable,
 ) -> Result<Likeness, Trouble> {
+    let needs = Needs::none(alloc);
+    let first = Subject {
+        boxed: own,
+        needs: &needs,
+    };
+    let second = Subject {
+        boxed: other,
+        needs: &needs,
+    };
     Ok(again!(
         refusals,
-        compare_at(alloc, subject, other, Hook::Input, BUDGET),
-        has_listing(alloc, &subject.table, REST)?
+        compare_at_under(alloc, &first, &second, Hook::Input, BUDGET),
+        has_listing(alloc, &own.table, REST)?
     ))
 }
 
-/// `compare_at`, of the table beside itself and beside one without rules.
+/// `compare_at_under`, of the table beside itself and beside one without rules.
 pub fn compared(
     alloc: Global,
     refusals: &mut Refusals,
@@ -351,12 +364,21 @@ pub fn reached(
     }
 }
 
-/// The walks of the whole TCP packets at INPUT.
-fn walks(alloc: Global, subject: &BoxedTable) -> Result<Option<Vec<Leaf>>, AllocError> {
-    leaves(alloc, subject, Hook::Input, tcp(alloc)?, BUDGET)
+/// The walks of the whole TCP packets at INPUT, where no rule needs anything.
+fn walks(alloc: Global, boxed: &BoxedTable) -> Result<Option<Vec<Leaf>>, AllocError> {
+    let needs = Needs::none(alloc);
+    let subject = Subject {
+        boxed,
+        needs: &needs,
+    };
+    let start = Scope {
+        area: tcp(alloc)?,
+        answers: Answers::none(alloc),
+    };
+    leaves_under(alloc, &subject, Hook::Input, start, BUDGET)
 }
 
-/// `leaves`: one walk ends at the first rule, one at the last, and one comes to the policy.
+/// `leaves_under`, where no rule needs anything: one walk ends at the first rule, one at the last, and one comes to the policy.
 pub fn walked(alloc: Global, refusals: &mut Refusals, subject: &BoxedTable) -> Result<(), Trouble> {
     let found = again!(
         refusals,

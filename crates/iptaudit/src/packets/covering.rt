@@ -30,7 +30,7 @@ impl<'a, 'b, R: Clock, E: Print + IsTerminal> TakesPackets for Covering<'a, 'b, 
     }
 }
 
-/// Marks the rules that match a packet of standard input under some answers, and those that one may match whose walks aren't known, of which
+/// Marks the rules that match a packet of standard input under some answers, and those of which that isn't known of one, of which
 /// `errors` is told. There are no marks where a line of it was refused, whose fault was written.
 ///
 /// # Errors

@@ -1,10 +1,9 @@
 -- Answers: which assignments give them, which conditions they are about, and what they tell of a rule's needs.
-use Rattle.std.proofs.Common.{◌≡◌, ◌≢◌, ℕ, zero, suc, ◌+◌, ◌<◌, List, [], ◌∷◌, ◌++◌, length, get_or, take, refl, sym, ◌∙◌, ap, arith, subst, ◌⊎◌, inl, inr, ◌≤◌, Bool, true, false, cond, not, Option, Some, None, Any, Contains, All}
-use Rattle.std.specs.Prelude.{nat_eq}
-use Rattle.std.proofs.lemmas.List.{get_or-take, get_or_default, length-take, get_or_append_left, length-append}
+use Rattle.std.proofs.Common.{◌≡◌, ◌≢◌, ℕ, zero, suc, ◌+◌, ◌<◌, List, [], ◌∷◌, ◌++◌, length, get_or, take, refl, sym, ◌∙◌, ap, arith, subst, ◌⊎◌, inl, inr, ◌≤◌, Bool, true, false, cond, not, Option, Some, None, Any, Contains, All, nat_eq, get_or-take, length-take, length-append, true≢false}
+use Rattle.std.proofs.lemmas.List.{get_or_default, get_or_append_left}
 use Rattle.std.specs.Option.{option_or}
 use Rattle.std.proofs.Math.Bool.{beq}
-use Rattle.std.proofs.lemmas.Bool.{cases_Bool, cond-false, cond-true, true≢false}
+use Rattle.std.proofs.lemmas.Bool.{cases_Bool, cond-false, cond-true}
 use Rattle.std.proofs.lemmas.Bool.Decides.{eqb_tells}
 use Rattle.std.proofs.lemmas.List.Elements.{All-contains, All-push, Contains-push, All-cons, All-nil, Contains-get_or}
 use Rattle.std.proofs.lemmas.List.Quantifiers.{all_pairs_push}
@@ -26,31 +25,18 @@ use Rattle.questions.proofs.laws.TrailLaws.{items_next}
 
 -- ---- The first elements of a list, and the first of some answers.
 
-take_more : {X : Type 0} (xs : List X) (i : ℕ) (d : X) → i < length xs → take (suc i) xs ≡ take i xs ++ get_or xs i d ∷ []
-take_more [] i d lt = absurd (omega (arith, lt))
-take_more (x ∷ xs) zero d lt = refl
-take_more {X} (x ∷ xs) (suc i) d lt = ap (λ (l : List X). x ∷ l) (take_more xs i d (omega (arith, lt)))
-
--- one more of them
-pub take_next : {X : Type 0} (xs : List X) (i : ℕ) (d : X) → i < length xs → take (i + 1) xs ≡ take i xs ++ get_or xs i d ∷ []
-take_next xs i d lt =
-    let same : i + 1 ≡ suc i = omega arith in
-    ap (λ (k : ℕ). take k xs) same ∙ take_more xs i d lt
-
 -- the first of them, so many, are consistent
 pub first_consistent : (answers : List Answer) (n : ℕ) → AreConsistent answers → AreConsistent (take n answers)
 first_consistent answers n apart k i e before lt =
     let in_n : i < n = omega (arith, lt, length-take n answers) in
     let in_all : i < length answers = omega (arith, lt, length-take n answers) in
-    let C : Answer → Type 0 = λ answer. answer.condition ≢ (get_or (take n answers) i e).condition in
-    subst C (sym (get_or-take n answers k e (omega (arith, before, in_n)))) (subst (λ (answer : Answer). (get_or answers k e).condition ≢ answer.condition) (sym (get_or-take n answers i e in_n)) (apart k i e before in_all))
+    rw (← get_or-take n answers k e (omega (arith, before, in_n))) at (subst (λ (answer : Answer). (get_or answers k e).condition ≢ answer.condition) (sym (get_or-take n answers i e in_n)) (apart k i e before in_all))
 
 -- the next one is about another condition than those before it
 pub next_unanswered : (answers : List Answer) (i : ℕ) (d : Answer) → AreConsistent answers → i < length answers → IsUnanswered (take i answers) (get_or answers i d).condition
 next_unanswered answers i d apart lt k e less =
     let before : k < i = omega (arith, less, length-take i answers) in
-    let C : Answer → Type 0 = λ answer. answer.condition ≢ (get_or answers i d).condition in
-    subst C (sym (get_or-take i answers k e before)) (subst (λ (answer : Answer). (get_or answers k e).condition ≢ answer.condition) (get_or_default answers i e d lt) (apart k i e before lt))
+    rw (← get_or-take i answers k e before) at (subst (λ (answer : Answer). (get_or answers k e).condition ≢ answer.condition) (get_or_default answers i e d lt) (apart k i e before lt))
 
 -- ---- Answers: which assignments give them, and what they tell of a rule's needs.
 
@@ -68,13 +54,7 @@ agrees_with_one_more a answers condition holds agrees is = All-push (λ (answer 
 
 pub agrees_before : (a : Assignment) (answers more : List Answer) → Agrees a (answers ++ more) → Agrees a answers
 agrees_before a answers more agrees k d lt =
-    let P : Answer → Type 0 = λ answer. a answer.condition ≡ answer.holds in
-    subst P (get_or_append_left answers more d k lt) (agrees k d (omega (arith, lt, length-append answers more)))
-
--- ---- no condition twice
-
-pub consistent_with_one_more : (answers : List Answer) (condition : ℕ) (holds : Bool) → AreConsistent answers → IsUnanswered answers condition → AreConsistent (answers ++ about condition holds ∷ [])
-consistent_with_one_more answers condition holds apart unanswered = all_pairs_push (λ (one other : Answer). one.condition ≢ other.condition) answers (about condition holds) apart unanswered
+    rw (get_or_append_left answers more d k lt) at (agrees k d (omega (arith, lt, length-append answers more)))
 
 -- ---- some assignment gives the answers
 
@@ -112,7 +92,7 @@ some_assignment_gives answers apart = (giving answers, giving_agrees answers apa
 pub either_is_given : (answers : List Answer) (condition : ℕ) (holds : Bool) → AreConsistent answers → IsUnanswered answers condition → (a : Assignment) × Agrees a answers × (a condition ≡ holds)
 either_is_given answers condition holds apart unanswered =
     let more : List Answer = answers ++ about condition holds ∷ [] in
-    let (a, agrees) = some_assignment_gives more (consistent_with_one_more answers condition holds apart unanswered) in
+    let (a, agrees) = some_assignment_gives more (all_pairs_push (λ (one other : Answer). one.condition ≢ other.condition) answers (about condition holds) apart unanswered) in
     (a, agrees_before a answers (about condition holds ∷ []) agrees, is_given a more condition holds agrees (Contains-push answers (about condition holds)))
 
 -- ---- what is known of needs
@@ -167,10 +147,7 @@ one_is_open needs answers seen condition all (needed, unanswered, others) = reco
 -- each need holds where all do
 pub each_holds : (a : Assignment) (needs : List Need) → all_hold a needs ≡ true → (k : ℕ) (d : Need) → k < length needs → need_holds a (get_or needs k d) ≡ true
 each_holds a needs all k d lt =
-    elim (cases_Bool (need_holds a (get_or needs k d))) [
-      | inl h ↦ h
-      | inr un ↦ absurd (true≢false (sym all ∙ list_all_at (need_holds a) needs k d lt un))
-    ]
+    elim (cases_Bool (need_holds a (get_or needs k d))) [ inl h ↦ h | inr un ↦ absurd (true≢false (sym all ∙ list_all_at (need_holds a) needs k d lt un)) ]
 
 pub unmet_by : (inverted value holds : Bool) → value ≡ holds → beq holds inverted ≡ true → cond inverted (not value) value ≡ false
 unmet_by true true true e h = refl
@@ -234,17 +211,13 @@ asked_more needs given answers more answer is own need =
     let Asked : Answer → Type 0 = λ a. Contains given a ⊎ IsNeeded needs a.condition in
     subst (All Asked) (sym is) (All-push Asked answers answer own (inr need))
 
--- those that are given
-pub asked_all : (needs : List (List (List Need))) (given : List Answer) → AreAsked needs given given
-asked_all needs given k d lt = inl (Contains-get_or given k d lt)
-
 -- a box at the first rule of a hook's chain
 pub asked_first : (needs : List (List (List Need))) (hook : Hook) (start : Scope) (front : Front) → IsFirst hook start front → AllAsked needs start.answers front
 asked_first needs hook start front first =
     let Tasks : Task → Type 0 = λ task. AreAsked needs start.answers task.scope.answers in
     let Leaves : Leaf → Type 0 = λ leaf. AreAsked needs start.answers leaf.answers in
     let P : Scope → Type 0 = λ scope. AreAsked needs start.answers scope.answers in
-    let own : Tasks first.task = subst P (sym first.stands) (asked_all needs start.answers) in
+    let own : Tasks first.task = subst P (sym first.stands) (λ k d lt. inl (Contains-get_or start.answers k d lt)) in
     record {
       tasks = subst (All Tasks) (sym first.tasks) (All-cons Tasks first.task [] own (All-nil Tasks));
       leaves = subst (All Leaves) (sym first.leaves) (All-nil Leaves);

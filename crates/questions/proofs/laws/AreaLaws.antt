@@ -1,11 +1,10 @@
 -- Boxes of packets, place by place.
-use Rattle.std.proofs.Common.{◌≡◌, ◌≢◌, inl, inr, ℕ, zero, suc, ◌+◌, ◌-◌, ◌<◌, ◌≤◌, Bool, true, false, cond, ◌&&◌, not, ◌==◌, ◌||◌, List, [], ◌∷◌, ◌++◌, length, get_or, map, refl, sym, ◌∙◌, ap, arith, subst, ◌⊎◌, below_more, Contains}
-use Rattle.std.specs.Prelude.{slice_index}
+use Rattle.std.proofs.Common.{◌≡◌, ◌≢◌, inl, inr, ℕ, zero, suc, ◌+◌, ◌-◌, ◌<◌, ◌≤◌, Bool, true, false, cond, ◌&&◌, not, ◌==◌, ◌||◌, List, [], ◌∷◌, ◌++◌, length, get_or, map, refl, sym, ◌∙◌, ap, arith, subst, ◌⊎◌, below_more, slice_index, lt-ltb, le-ltb, le-leb, leb-true, eq-eqb, ne_eqb, eqb-true, true≢false, get_or-set_same, get_or-set_other}
 use Rattle.std.specs.List.{list_all}
 use Rattle.std.proofs.Math.Dec.{eqb, leb}
 use Rattle.std.proofs.Math.ListN.{set}
-use Rattle.std.proofs.lemmas.Bool.{cases_Bool, cases_eq, and_from, and_parts, cases_lt, lt-ltb, le-ltb, le-leb, leb-true, eq-eqb, ne_eqb, eqb-true, true≢false}
-use Rattle.std.proofs.lemmas.List.{get_or-map, length-map, get_or_default, get_or-set_same, get_or-set_other, nil_from_length, same_lists}
+use Rattle.std.proofs.lemmas.Bool.{cases_Bool, cases_eq, and_from, and_parts, cases_lt}
+use Rattle.std.proofs.lemmas.List.{get_or-map, length-map, get_or_default, same_lists}
 use Rattle.std.proofs.lemmas.List.Elements.{Contains-push_cases}
 use Rattle.std.proofs.lemmas.List.Sums.{AllPass-from_list_all}
 use Rattle.fields.specs.declared.numbers.field.TheConstants.{FIELDS}
@@ -59,8 +58,7 @@ set_next {X} P xs k v lt below here j d less =
 pub on_field : (box : List SpanSet) (numbers : List ℕ) (f : Field) → box_matches numbers box ≡ true → box_allows box f (number_on numbers f) ≡ true
 on_field box numbers f h =
     let p : Field → Bool = λ g. box_allows box g (number_on numbers g) in
-    let P : Field → Type 0 = λ g. p g ≡ true in
-    subst P (here_is f f) (AllPass-from_list_all p all_fields h (index f) f (index-lt f))
+    rw (here_is f f) at (AllPass-from_list_all p all_fields h (index f) f (index-lt f))
 
 pub at_place : (box : List SpanSet) (numbers : List ℕ) (k : ℕ) → k < FIELDS → box_matches numbers box ≡ true → has_at box numbers k ≡ true
 at_place box numbers k lt h =
@@ -71,8 +69,7 @@ at_place box numbers k lt h =
 -- the set at a field's place has the numbers that the box allows on the field
 pub set_at : (box : List SpanSet) (k : ℕ) (f : Field) (s : SpanSet) (x : ℕ) → IsBox box → k ≡ index f → s ≡ get_or box k s → has s.intervals x ≡ box_allows box f x
 set_at box k f s x is at own =
-    let P : ℕ → Type 0 = λ j. s ≡ get_or box j s in
-    ap (λ (y : SpanSet). has y.intervals x) (subst P at own ∙ get_or_default box (index f) s no_set (omega (arith, index-lt f, box_long box is)))
+    ap (λ (y : SpanSet). has y.intervals x) ((rw (at) at own) ∙ get_or_default box (index f) s no_set (omega (arith, index-lt f, box_long box is)))
 
 -- the set at a field's place has the number on it
 pub set_has : (box : List SpanSet) (numbers : List ℕ) (k : ℕ) (f : Field) (s : SpanSet) → IsBox box → k ≡ index f → s ≡ get_or box k s → Has box numbers → has s.intervals (number_on numbers f) ≡ true
@@ -202,15 +199,7 @@ pub only_one : (n x : ℕ) → (leb n x && leb x n) ≡ (x == n)
 only_one n x = same_truth (leb n x && leb x n) (x == n) (λ t. (let both = and_parts (leb n x) (leb x n) t in eq-eqb x n (omega (arith, leb-true n x both.0, leb-true x n both.1))))
     (λ t. and_from (leb n x) (leb x n) (le-leb n x (omega (arith, eqb-true x n t))) (le-leb x n (omega (arith, eqb-true x n t))))
 
--- all numbers up to a top, or 0 alone
-pub all_or_zero_of : (all : Bool) (last top x : ℕ) → x ≤ top → last ≡ cond all top 0 → (leb 0 x && leb x last) ≡ (all || (x == 0))
-all_or_zero_of true last top x le e = and_from (leb 0 x) (leb x last) (le-leb 0 x (omega arith)) (le-leb x last (omega (arith, le, e)))
-all_or_zero_of false last top x le e = ap (λ n. leb 0 x && leb x n) e ∙ only_one 0 x
-
 -- ---- the packets at a hook
-
-zero_is : (x : ℕ) → x ≡ 0 → (x == 0) ≡ true
-zero_is x e = ap (λ y. y == 0) e
 
 -- what a packet at a hook has on a field it may have
 pub may_be : (p : PacketView) (hook : Hook) (f : Field) → IsAtHook p → p.hook ≡ hook → may_have hook f (point p f) ≡ true
@@ -218,7 +207,7 @@ may_be p hook f at e = by_field f
   where
     by_test : (b : Bool) (x : ℕ) → (b ≡ false → x ≡ 0) → (not (not b) || (x == 0)) ≡ true
     by_test true x h = refl
-    by_test false x h = zero_is x (h refl)
+    by_test false x h = ap (λ y. y == 0) (h refl)
 
     by_field : (g : Field) → may_have hook g (point p g) ≡ true
     by_field field.InIface = by_test (comes_in hook) (point p field.InIface) (λ n. at.carried field.InIface (ap comes_in e ∙ n))
@@ -269,9 +258,7 @@ box_of_rule rule box numbers is point = all_alike (λ f. box_allows box f (numbe
 pub side_at : (at k : ℕ) (own other : List SpanSet) (a b side : SpanSet) → a ≡ get_or own k a → b ≡ get_or other k b → k < length own → k < length other → IsSide at k a b side
     → (d e : SpanSet) → IsSide at k (get_or own k d) (get_or other k e) side
 side_at at k own other a b side is too lt less h d e =
-    let P : SpanSet → Type 0 = λ s. IsSide at k s b side in
-    let Q : SpanSet → Type 0 = λ s. IsSide at k (get_or own k d) s side in
-    subst Q (too ∙ get_or_default other k b e less) (subst P (is ∙ get_or_default own k a d lt) h)
+    rw (too ∙ get_or_default other k b e less) at (rw (is ∙ get_or_default own k a d lt) at h)
 
 pub sides_next : (at : ℕ) (own other sets : List SpanSet) (k : ℕ) (v a b : SpanSet) → IsBox own → IsBox other → length sets ≡ FIELDS → k < FIELDS → a ≡ get_or own k a → b ≡ get_or other k b
     → ((place : ℕ) (d e f : SpanSet) → place < k → IsSide at place (get_or own place d) (get_or other place e) (get_or sets place f)) → IsSide at k a b v
@@ -303,10 +290,7 @@ some_lack box numbers (suc n) =
 -- numbers that a box hasn't leave it somewhere
 pub leaves_somewhere : (box : List SpanSet) (numbers : List ℕ) → (Has box numbers → ⊥) → (at : ℕ) × (at < FIELDS) × LeavesAt at box numbers
 leaves_somewhere box numbers lacks =
-    elim (some_lack box numbers FIELDS) [
-      | inl all ↦ absurd (lacks (record { each = from_places box numbers all }))
-      | inr found ↦ found
-    ]
+    elim (some_lack box numbers FIELDS) [ inl all ↦ absurd (lacks (record { each = from_places box numbers all })) | inr found ↦ found ]
 
 pub takes_at : (at : ℕ) (b : Bool) → takes at at b ≡ not b
 takes_at at b = ap (λ t. cond t b (cond (eqb at at) (not b) true)) (le-ltb at at (omega arith)) ∙ ap (λ t. cond t (not b) true) (eq-eqb at at refl)
@@ -354,9 +338,6 @@ nothing_left at own other a b numbers is too lt ia ib part there leaves =
     let second : has b.intervals x ≡ false = ap (λ (s : SpanSet). has s.intervals x) (ib ∙ get_or_default other at b no_set (omega (arith, lt, box_long other too))) ∙ leaves.here in
     true≢false (sym (part x first) ∙ second)
 
-pub is_nil : {X : Type 0} (xs : List X) (b : Bool) → b ≡ (length xs == 0) → b ≡ true → xs ≡ []
-is_nil xs b e t = nil_from_length xs (eqb-true (length xs) 0 (sym e ∙ t))
-
 -- what leaves at each of the last so many places, and at the one before them, is in some part
 pub parts_next : (other own : List SpanSet) (old new : List (List SpanSet)) (done : ℕ) → done < FIELDS → ((numbers : List ℕ) → IsInSome old numbers → IsInSome new numbers)
     → ((numbers : List ℕ) → IsPoint numbers → Has own numbers → LeavesAt (FIELDS - 1 - done) other numbers → IsInSome new numbers)
@@ -371,12 +352,7 @@ parts_next other own old new done within kept added last numbers k lt le point h
 -- numbers of some boxes, of which one is taken out, are in it or in those that are left
 pub some_left : (boxes left : List (List SpanSet)) (box : List SpanSet) (numbers : List ℕ) → boxes ≡ left ++ box ∷ [] → IsInSome boxes numbers → IsInSome left numbers ⊎ Has box numbers
 some_left boxes left box numbers e a =
-    let Q : List (List SpanSet) → Type 0 = λ bs. Contains bs a.0 in
-    let R : List SpanSet → Type 0 = λ b. Has b numbers in
-    elim (Contains-push_cases left box a.0 (subst Q e a.1)) [
-      | inl c ↦ inl (a.0, c, a.2)
-      | inr same ↦ inr (subst R (sym same) a.2)
-    ]
+    elim (Contains-push_cases left box a.0 (rw e at a.1)) [ inl c ↦ inl (a.0, c, a.2) | inr same ↦ inr (rw (← same) at a.2) ]
 
 pub none_in : (boxes : List (List SpanSet)) (numbers : List ℕ) → boxes ≡ [] → IsInSome boxes numbers → ⊥
 none_in boxes numbers e some = absurd (omega (arith, some.1.1, ap (λ (bs : List (List SpanSet)). length bs) e))
@@ -389,10 +365,7 @@ has_of_rule rule box numbers is point m = record { each = box_of_rule rule box n
 pub apart_of : (rule : Rule) (area box : List SpanSet) → IsBoxOf rule box → ((numbers : List ℕ) → IsPoint numbers → Has area numbers → Has box numbers → ⊥) → IsApart rule area
 apart_of rule area box is none = record {
   none = λ numbers point has.
-      elim (cases_Bool (matches numbers rule)) [
-        | inl m ↦ absurd (none numbers point has (has_of_rule rule box numbers is point m))
-        | inr f ↦ f
-      ];
+      elim (cases_Bool (matches numbers rule)) [ inl m ↦ absurd (none numbers point has (has_of_rule rule box numbers is point m)) | inr f ↦ f ];
 }
 
 module _ (rule : Rule) (area box inside : List SpanSet) (is : IsBoxOf rule box) (both : IsBoth area box inside) where
@@ -446,10 +419,7 @@ module _ (rule : Rule) (area box inside : List SpanSet) (is : IsBoxOf rule box) 
     parted_of again parts whole = record {
       matched = λ numbers point has m. parts numbers point (both.all numbers point has (has_of_rule rule box numbers is point m));
       others = λ numbers point has m.
-          elim (by_box numbers point has) [
-            | inl here ↦ inl (parts numbers point here.0)
-            | inr gone ↦ inr (out numbers point has gone.0)
-          ];
+          elim (by_box numbers point has) [ inl here ↦ inl (parts numbers point here.0) | inr gone ↦ inr (out numbers point has gone.0) ];
       only = λ numbers point some. both.first numbers point (whole numbers point some);
       rest = unmatched;
     }
@@ -458,21 +428,14 @@ module _ (rule : Rule) (area box inside : List SpanSet) (is : IsBoxOf rule box) 
 pub two_parts : (numbers : List ℕ) (one other : List SpanSet) (none first both : List (List SpanSet)) → none ≡ [] → first ≡ none ++ one ∷ [] → both ≡ first ++ other ∷ [] → Has one numbers ⊎ Has other numbers → IsInSome both numbers
 two_parts numbers one other none first both n f b h =
     let is : both ≡ one ∷ other ∷ [] = b ∙ ap (λ (bs : List (List SpanSet)). bs ++ other ∷ []) (f ∙ ap (λ (bs : List (List SpanSet)). bs ++ one ∷ []) n) in
-    let P : List (List SpanSet) → Type 0 = λ bs. IsInSome bs numbers in
-    subst P (sym is) (elim h [
-      | inl l ↦ (one, (0, omega arith, refl), l)
-      | inr r ↦ (other, (1, omega arith, refl), r)
-    ])
+    rw is (elim h [ inl l ↦ (one, (0, omega arith, refl), l) | inr r ↦ (other, (1, omega arith, refl), r) ])
 
 -- and no others are in these
 pub two_only : (numbers : List ℕ) (one other : List SpanSet) (none first both : List (List SpanSet)) → none ≡ [] → first ≡ none ++ one ∷ [] → both ≡ first ++ other ∷ [] → IsInSome both numbers → Has one numbers ⊎ Has other numbers
 two_only numbers one other none first both n f b some =
     elim (some_left both first other numbers b some) [
       | inr second ↦ inr second
-      | inl before ↦ elim (some_left first none one numbers f before) [
-        | inl nowhere ↦ absurd (none_in none numbers n nowhere)
-        | inr here ↦ inl here
-      ]
+      | inl before ↦ elim (some_left first none one numbers f before) [ inl nowhere ↦ absurd (none_in none numbers n nowhere) | inr here ↦ inl here ]
     ]
 
 -- what is said of a test of the ports in a box is said of the box's packets

@@ -1,9 +1,9 @@
 -- A packet comes to a rule if all that it may meet before leaves it where it may be.
-use Rattle.std.proofs.Common.{◌≡◌, ◌⊎◌, inl, inr, ℕ, zero, suc, ◌+◌, ◌-◌, ◌<◌, ◌≤◌, true, List, [], ◌∷◌, length, get_or, refl, sym, ◌∙◌, ap, arith, subst, Option, Some, None, Contains, IsTrue}
-use Rattle.std.specs.Prelude.{◌≢◌, IsFalse, ◌&&◌}
+use Rattle.std.proofs.Common.{◌≡◌, ◌⊎◌, inl, inr, ℕ, zero, suc, ◌+◌, ◌-◌, ◌<◌, ◌≤◌, true, List, [], ◌∷◌, length, get_or, refl, sym, ◌∙◌, ap, arith, subst, Option, Some, None, Contains, IsTrue, ◌≢◌, IsFalse, ◌&&◌, eqb-true, true≢false}
+use Rattle.questions.proofs.laws.LengthLaws.{by_place, hook_number}
 use Rattle.std.specs.List.{position}
 use Rattle.std.proofs.Math.Dec.{eqb}
-use Rattle.std.proofs.lemmas.Bool.{and_parts, cases_Bool, cases_lt, eqb-true, true≢false}
+use Rattle.std.proofs.lemmas.Bool.{and_parts, cases_Bool, cases_lt}
 use Rattle.std.proofs.lemmas.List.Elements.{Contains-append_left, Contains-push}
 use Rattle.std.proofs.lemmas.Option.{get_or_from_slice_get, slice_get-get_or, slice_get_within}
 use Rattle.fields.specs.Hook.{name as hook_name}
@@ -36,7 +36,6 @@ use Rattle.questions.specs.steps.Lengths.{number_of}
 use Rattle.questions.specs.steps.Takers.{needs_of}
 use Rattle.questions.specs.steps.Straying.{place_of}
 use Rattle.questions.proofs.laws.TrailLaws.{none_some}
-use Rattle.questions.proofs.laws.LengthLaws.{hook_number}
 use Rattle.questions.proofs.laws.ResolvedLaws.{never_matches, count_left, entry_left, names_same, resolved_is, resolved_not, rule_at_left, same_position}
 
 -- ---- one packet's walk
@@ -108,10 +107,6 @@ comes_to t p entry far back first stays begins never =
 
 -- ---- a table under an assignment
 
--- by which number a place goes
-abbrev by_place : List ℕ → Option ℕ → ℕ
-by_place numbers o = elim o as (λ x. ℕ) [ None ↦ 0 | Some place ↦ get_or numbers place 0 ]
-
 module _ (s : Subject) (p : Packet) (answers : List Answer) (wanted : Step) (far back : List ℕ) (rule : IsRule (table_of s) wanted)
     (met : AreMetBefore s p answers wanted far back) (a : Assignment) (agrees : Agrees a answers) where
   abbrev own : Table
@@ -181,10 +176,9 @@ module _ (s : Subject) (p : Packet) (answers : List Answer) (wanted : Step) (far
       -- a rule that is left is itself, where all holds that it needs
       holds : IsTrue (matches p.values r) → IsTrue (all_hold a needed)
       holds on =
-          let P : Rule → Type 0 = λ x. matches p.values x ≡ true in
           elim (cases_Bool (all_hold a needed)) [
             | inl held ↦ held
-            | inr fails ↦ absurd (true≢false (sym (subst P (rule_is ∙ rule_at_left s.needs.now a own by by_rule ∙ resolved_not a needed (rule_at own by) fails) on) ∙ never_matches p.values))
+            | inr fails ↦ absurd (true≢false (sym (rw (rule_is ∙ rule_at_left s.needs.now a own by by_rule ∙ resolved_not a needed (rule_at own by) fails) at on) ∙ never_matches p.values))
           ]
 
       same_rule : IsTrue (all_hold a needed) → r ≡ rule_at own by
@@ -229,19 +223,13 @@ module _ (s : Subject) (p : Packet) (answers : List Answer) (wanted : Step) (far
 pub surely_sought : (s : Subject) (p : Packet) (answers : List Answer) (wanted : Step) (far back : List ℕ) (place : ℕ) → IsSound (table_of s) → IsRule (table_of s) wanted → AreMetBefore s p answers wanted far back
     → place ≡ hook_index p.hook → 0 < get_or far place 0 → get_or back place 0 ≡ 0 → (a : Assignment) → Agrees a answers → IsSought (answered s a) (entry_of (answered s a).chains wanted) p
 surely_sought s p answers wanted far back place sound rule met at begins never a agrees =
-    let P : ℕ → Type 0 = λ k. 0 < get_or far k 0 in
-    let Q : ℕ → Type 0 = λ k. get_or back k 0 ≡ 0 in
-    sought s p answers wanted far back rule met a agrees sound (subst P at begins) (subst Q at never)
+    sought s p answers wanted far back rule met a agrees sound (rw (at) at begins) (rw (at) at never)
 
 -- and then the answers suffice
 pub sought_enough : (s : Subject) (p : Packet) (answers : List Answer) (wanted : Step) → ((a : Assignment) → Agrees a answers → IsSought (answered s a) (entry_of (answered s a).chains wanted) p)
     → ((a : Assignment) → (walk (answered s a) p).verdict ≢ TooLong) → AreEnough s wanted p answers
 sought_enough s p answers wanted comes short a agrees =
-    let Q : Entry → Type 0 = λ entry. Contains (walk (answered s a) p).trail entry in
-    elim (comes a agrees) [
-      | inl on ↦ subst Q (entry_left s.needs.now a (table_of s) wanted) on
-      | inr long ↦ absurd (short a long)
-    ]
+    elim (comes a agrees) [ inl on ↦ rw (entry_left s.needs.now a (table_of s) wanted) at on | inr long ↦ absurd (short a long) ]
 
 -- ---- what is known of one rule
 

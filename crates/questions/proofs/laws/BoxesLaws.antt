@@ -1,9 +1,9 @@
 -- The rules of a table, collected chain by chain, and the boxes of all of them.
-use Rattle.std.proofs.Common.{◌≡◌, ◌⊎◌, inl, inr, ℕ, ◌+◌, ◌<◌, ◌≤◌, List, [], ◌∷◌, ◌++◌, length, sym, ◌∙◌, ap, arith, subst, Contains, zero, suc, ◌-◌, get_or, take, map, Vec, vec_len, Global}
+use Rattle.std.proofs.Common.{◌≡◌, ◌⊎◌, inl, inr, ℕ, ◌+◌, ◌<◌, ◌≤◌, List, [], ◌∷◌, ◌++◌, length, sym, ◌∙◌, ap, arith, subst, Contains, zero, suc, ◌-◌, get_or, take, map, Vec, vec_len, Global, length-append}
 use Rattle.std.proofs.lemmas.Bool.{cases_eq, cases_lt}
 use Rattle.std.proofs.lemmas.List.Elements.{Contains-append_left, Contains-push, Contains-push_cases}
 use Rattle.std.proofs.Math.Numerals.{add-one}
-use Rattle.std.proofs.lemmas.List.{get_or_append_left, get_or_default, get_or_push, get_or-map, length-append, length-map}
+use Rattle.std.proofs.lemmas.List.{get_or_append_left, get_or_default, get_or_push, get_or-map, length-map}
 use Rattle.table.specs.chains.Table.{Table, chain_at, Chain, empty_chain}
 use Rattle.table.specs.declared.walk.trail.Step.{Step}
 use Rattle.fields.specs.numbers.Spans.{SpanSet}
@@ -18,8 +18,7 @@ use Rattle.questions.specs.boxes.Boxes.{AreBoxesOf, AreBoxesOfRules, rules_in}
 -- the number of a rule of the chain
 pub rule_last : (t : Table) (place count : ℕ) → length (chain_at t place).rules ≤ count → (by : Step) → by.chain ≡ place → IsRule t by → by.number ≤ count
 rule_last t place count le by at is =
-    let P : ℕ → Type 0 = λ k. by.number ≤ length (chain_at t k).rules in
-    let within : by.number ≤ length (chain_at t place).rules = subst P at is.last in
+    let within : by.number ≤ length (chain_at t place).rules = rw (at) at is.last in
     omega (arith, within, le)
 
 -- ---- rule after rule
@@ -86,25 +85,15 @@ module _ (Holds : Step → Type 0) where
 
   pub before_next : (place : ℕ) (old new : List Step) → AddsRules Holds place old new → AreBefore place old → AreBefore (place + 1) new
   before_next place old new adds below by lt holds =
-      elim (cases_eq by.chain place) [
-        | inl e ↦ adds.added by e holds
-        | inr ne ↦ adds.kept by (below by (omega (arith, ne, lt)) holds)
-      ]
+      elim (cases_eq by.chain place) [ inl e ↦ adds.added by e holds | inr ne ↦ adds.kept by (below by (omega (arith, ne, lt)) holds) ]
 
   pub all_next : (place : ℕ) (old new : List Step) → AddsRules Holds place old new → AreAll old → AreAll new
-  all_next place old new adds all by c =
-      elim (adds.only by c) [
-        | inl before ↦ all by before
-        | inr here ↦ here.1
-      ]
+  all_next place old new adds all by c = elim (adds.only by c) [ inl before ↦ all by before | inr here ↦ here.1 ]
 
   -- a chain of whose rules it holds of none
   pub before_skip : (place : ℕ) (found : List Step) → ((by : Step) → by.chain ≡ place → Holds by → ⊥) → AreBefore place found → AreBefore (place + 1) found
   before_skip place found none below by lt holds =
-      elim (cases_eq by.chain place) [
-        | inl e ↦ absurd (none by e holds)
-        | inr ne ↦ below by (omega (arith, ne, lt)) holds
-      ]
+      elim (cases_eq by.chain place) [ inl e ↦ absurd (none by e holds) | inr ne ↦ below by (omega (arith, ne, lt)) holds ]
 
 -- what is the same of the rules of the chain holds of them, too
 pub adds_as : (P Q : Step → Type 0) (place : ℕ) (old new : List Step) → ((by : Step) → by.chain ≡ place → P by → Q by) → ((by : Step) → by.chain ≡ place → Q by → P by) → AddsRules P place old new → AddsRules Q place old new
@@ -112,10 +101,7 @@ adds_as P Q place old new to from adds = record {
   kept = adds.kept;
   added = λ by at q. adds.added by at (from by at q);
   only = λ by c.
-      elim (adds.only by c) [
-        | inl before ↦ inl before
-        | inr here ↦ inr (here.0, to by here.0 here.1)
-      ];
+      elim (adds.only by c) [ inl before ↦ inl before | inr here ↦ inr (here.0, to by here.0 here.1) ];
 }
 
 -- ---- The boxes of all rules of a table.
@@ -136,29 +122,18 @@ pair_more {X} {Y} P xs ys more y n is pairs here = record {
   long = ap length is ∙ length-append ys (y ∷ []) ∙ ap (λ m. m + 1) pairs.long;
   each = λ k a b lt.
       (let Q : List Y → Type 0 = λ zs. P (get_or xs k a) (get_or zs k b) in
-      let R : Y → Type 0 = λ z. P (get_or xs k a) z in
-      let S : ℕ → Type 0 = λ j. P (get_or xs j a) y in
       subst Q (sym is)
       (elim (cases_lt k n) [
-        | inl less ↦ subst R (sym (get_or_append_left ys (y ∷ []) b k (omega (arith, less, pairs.long)))) (pairs.each k a b less)
+        | inl less ↦ rw (← get_or_append_left ys (y ∷ []) b k (omega (arith, less, pairs.long))) at (pairs.each k a b less)
         | inr past ↦ (
             let same : k ≡ n = omega (arith, lt, past) in
-            subst R (sym (get_or_push ys y b k (pairs.long ∙ sym same))) (subst S (sym same) (here a)))
+            rw (← (get_or_push ys y b k (pairs.long ∙ sym same))) at (rw (← same) at (here a)))
       ]));
 }
 
 -- a chain's rules with their boxes
 abbrev pub RulePairs : List Rule → List (List SpanSet) → ℕ → Type 0
 RulePairs rules boxes n = Pair IsBoxOf rules boxes n
-
-pub all_rules : (rules : List Rule) (boxes : List (List SpanSet)) (n : ℕ) → n ≡ length rules → RulePairs rules boxes n → AreBoxesOfRules rules boxes
-all_rules rules boxes n all pairs = record { long = pairs.long ∙ all; each = λ k r b lt. pairs.each k r b (omega (arith, lt, all)) }
-
--- a box made of the next rule
-pub next_rule : (rules : List Rule) (k : ℕ) (rule : Rule) (boxed : List SpanSet) → k < length rules → rule ≡ get_or rules (k + 1 - 1) rule → IsBoxOf rule boxed → (a : Rule) → IsBoxOf (get_or rules k a) boxed
-next_rule rules k rule boxed lt is h a =
-    let P : Rule → Type 0 = λ r. IsBoxOf r boxed in
-    subst P (is ∙ ap (λ j. get_or rules j rule) (omega arith) ∙ get_or_default rules k rule a lt) h
 
 -- the chain's rules have these boxes
 abbrev pub HasBoxes : Chain → Vec (List SpanSet) Global → Type 0
@@ -180,8 +155,7 @@ all_chains chains boxes n all pairs = record {
   long = length-map boxes items_of ∙ pairs.long ∙ all;
   each = λ k c bs lt.
       (let there : k < length boxes = omega (arith, lt, all, pairs.long) in
-      let P : List (List SpanSet) → Type 0 = λ own. (let chain : Chain = get_or chains k c in AreBoxesOfRules chain.rules own) in
-      subst P (sym (get_or-map items_of boxes k (empty k there) bs there)) (pairs.each k c (empty k there) (omega (arith, lt, all))));
+      rw (← get_or-map items_of boxes k (empty k there) bs there) at (pairs.each k c (empty k there) (omega (arith, lt, all))));
 }
   where
     some : (xs : List (Vec (List SpanSet) Global)) (k : ℕ) → k < length xs → Vec (List SpanSet) Global
@@ -207,25 +181,18 @@ rules_more cs k lt = ap (λ j. rules_in (take j cs)) (add-one k) ∙ rules_next 
 -- ---- asked for
 
 module _ (t : Table) (boxes : List (Vec (List SpanSet) Global)) (are : AreBoxesOf t.chains (map (λ (v : Vec (List SpanSet) Global). v.items) boxes)) (place number : ℕ) (lt : place < length t.chains) (first : 0 < number) (last : number ≤ length (chain_at t place).rules) where
-  pub chain_there : place < length boxes
-  chain_there = omega (arith, lt, are.long, length-map boxes items_of)
-
   own : (v : Vec (List SpanSet) Global) → v ≡ get_or boxes place v → AreBoxesOfRules (chain_at t place).rules v.items
   own v e =
-      let P : List (List SpanSet) → Type 0 = λ bs. AreBoxesOfRules (chain_at t place).rules bs in
-      let Q : Vec (List SpanSet) Global → Type 0 = λ w. AreBoxesOfRules (chain_at t place).rules w.items in
-      subst Q (sym e) (subst P (get_or-map items_of boxes place v [] chain_there) (are.each place (empty_chain []) [] lt))
+      rw (← e) at (rw (get_or-map items_of boxes place v [] (omega (arith, lt, are.long, length-map boxes items_of))) at (are.each place (empty_chain []) [] lt))
 
   pub rule_there : (v : Vec (List SpanSet) Global) → v ≡ get_or boxes place v → number - 1 < vec_len v
   rule_there v e = omega (arith, first, last, (own v e).long, v.ok.0)
 
   pub box_there : (v : Vec (List SpanSet) Global) (b : List SpanSet) → v ≡ get_or boxes place v → b ≡ get_or v.items (number - 1) b → IsBoxOf (get_or (chain_at t place).rules (number - 1) empty_rule) b
   box_there v b e is =
-      let P : List SpanSet → Type 0 = λ own. IsBoxOf (get_or (chain_at t place).rules (number - 1) empty_rule) own in
-      subst P (sym is) ((own v e).each (number - 1) empty_rule b (omega (arith, first, last)))
+      rw (← is) at ((own v e).each (number - 1) empty_rule b (omega (arith, first, last)))
 
 -- the box of a rule that was asked for too
 pub own_box : (rules : List Rule) (k : ℕ) (rule : Rule) (boxed : List SpanSet) → k < length rules → rule ≡ get_or rules k rule → IsBoxOf (get_or rules k empty_rule) boxed → IsBoxOf rule boxed
 own_box rules k rule boxed lt is h =
-    let P : Rule → Type 0 = λ r. IsBoxOf r boxed in
-    subst P (get_or_default rules k empty_rule rule lt ∙ sym is) h
+    rw (get_or_default rules k empty_rule rule lt ∙ sym is) at h

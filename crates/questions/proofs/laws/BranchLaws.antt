@@ -1,7 +1,6 @@
 -- What becomes of the packets of a box at a rule and at the rules ahead of it in a chain.
-use Rattle.std.proofs.Common.{◌≡◌, ◌⊎◌, inl, inr, ℕ, zero, suc, ◌+◌, ◌-◌, ◌<◌, ◌≤◌, false, List, [], ◌∷◌, ◌++◌, length, refl, sym, ◌∙◌, ap, arith, subst, Option, Some, None, get_or, Vec, Global, true, IsTrue}
-use Rattle.std.specs.Prelude.{slice_get, IsFalse}
-use Rattle.std.proofs.lemmas.Bool.{cases_lt, cases_Bool, true≢false}
+use Rattle.std.proofs.Common.{◌≡◌, ◌⊎◌, inl, inr, ℕ, zero, suc, ◌+◌, ◌-◌, ◌<◌, ◌≤◌, false, List, [], ◌∷◌, ◌++◌, length, refl, sym, ◌∙◌, ap, arith, subst, Option, Some, None, get_or, Vec, Global, true, IsTrue, slice_get, IsFalse, true≢false}
+use Rattle.std.proofs.lemmas.Bool.{cases_lt, cases_Bool}
 use Rattle.std.proofs.lemmas.List.{get_or_default}
 use Rattle.std.proofs.lemmas.List.Elements.{Contains-get_or, Contains-push}
 use Rattle.std.proofs.lemmas.Option.{slice_get-get_or, get_or_from_slice_get}
@@ -27,7 +26,7 @@ use Rattle.questions.specs.boxes.Boxes.{IsAtHook, IsIn}
 use Rattle.questions.specs.declared.foreign.need.Need.{Need}
 use Rattle.questions.specs.declared.walking.scope.Scope.{Scope}
 use Rattle.questions.specs.declared.walking.task.Pending.{Pending}
-use Rattle.questions.specs.Scopes.{IsOf, Known, entries_by, answered, is_met, known_by, table_of, under}
+use Rattle.questions.specs.Scopes.{Known, entries_by, answered, is_met, known_by, table_of, under}
 use Rattle.questions.specs.declared.walking.task.Task.{Task}
 use Rattle.questions.specs.boxes.Cut.{IsApart, IsCut, IsPartedFor}
 use Rattle.questions.specs.declared.foreign.answers.Answer.{Answer}
@@ -65,8 +64,7 @@ passes_at_once t p rest place waiting trail low high none r =
     let n : ℕ = place - rest.passed in
     let e : rest.passed + n ≡ place = omega (arith, low) in
     let to : ℕ → Stage = λ k. Under (record { chain = rest.chain; passed = k } ∷ waiting) trail in
-    let P : ℕ → Type 0 = λ k. Reaches t p (to k) in
-    subst P e (passes_some t p rest.chain waiting trail n rest.passed (omega (arith, e, high)) (λ k rule lo hi at. none k rule lo (omega (arith, e, hi)) at) r)
+    rw e at (passes_some t p rest.chain waiting trail n rest.passed (omega (arith, e, high)) (λ k rule lo hi at. none k rule lo (omega (arith, e, hi)) at) r)
 
 -- ---- the next rule
 
@@ -89,9 +87,6 @@ module _ (needs : List (List (List Need))) (a : Assignment) (t : Table) (at : Pe
   same : rules_of left.chains (name_at left.chains at.chain) ≡ own
   same = rules_by_name left (chain_at left at.chain) (left_sound needs a t sound) (Contains-get_or left.chains at.chain (empty_chain []) (there_left needs a t at.chain there))
 
-  get : (k : ℕ) → slice_get (rules_of left.chains (name_at left.chains at.chain)) k ≡ slice_get own k
-  get k = ap (λ (rs : List Rule). slice_get rs k) same
-
   -- one that matches none of two boxes still matches none
   pub still_apart : (start box : List SpanSet) (k : ℕ) → k < length (chain_at t at.chain).rules → IsApartIn (rule_ahead t (next k)) start box → IsApartIn (rule_ahead left (next k)) start box
   still_apart start box k within apart = λ numbers point first has.
@@ -100,36 +95,13 @@ module _ (needs : List (List (List Need))) (a : Assignment) (t : Table) (at : Pe
 
 -- what holds from a place up to another one, and there
 pub below_next : (P : ℕ → Type 0) (low n : ℕ) → ((k : ℕ) → low ≤ k → k < n → P k) → P n → (k : ℕ) → low ≤ k → k < n + 1 → P k
-below_next P low n below here k lo hi =
-    elim (cases_lt k n) [
-      | inl lt ↦ below k lo lt
-      | inr le ↦ subst P (omega (arith, le, hi)) here
-    ]
+below_next P low n below here k lo hi = elim (cases_lt k n) [ inl lt ↦ below k lo lt | inr le ↦ subst P (omega (arith, le, hi)) here ]
 
 -- and up to the next one, where it holds in between
 pub past_next : (P : ℕ → Type 0) (low n next : ℕ) → ((k : ℕ) → low ≤ k → k < n + 1 → P k) → ((k : ℕ) → n + 1 ≤ k → k < next → P k) → (k : ℕ) → low ≤ k → k < next → P k
-past_next P low n next below between k lo hi =
-    elim (cases_lt k (n + 1)) [
-      | inl lt ↦ below k lo lt
-      | inr le ↦ between k le hi
-    ]
+past_next P low n next below between k lo hi = elim (cases_lt k (n + 1)) [ inl lt ↦ below k lo lt | inr le ↦ between k le hi ]
 
 -- ---- the newest rest
-
-split_last : (xs : List Pending) (a : Pending) → slice_get xs (length xs - 1) ≡ Some a → (init : List Pending) × (xs ≡ init ++ a ∷ [])
-split_last [] a e = absurd (none_some e)
-  where
-    none_some : ◌≡◌ {A = Option Pending} None (Some a) → ⊥
-    none_some e = cc
-split_last (x ∷ []) a e = ([], ap (λ (y : Pending). y ∷ []) (some_is e))
-  where
-    some_is : ◌≡◌ {A = Option Pending} (Some x) (Some a) → x ≡ a
-    some_is e = cc
-split_last (x ∷ y ∷ zs) a e =
-    let i : length (x ∷ y ∷ zs) - 1 ≡ suc (length zs) = omega arith in
-    let j : length (y ∷ zs) - 1 ≡ length zs = omega arith in
-    let r = split_last (y ∷ zs) a (ap (slice_get (y ∷ zs)) j ∙ ap (slice_get (x ∷ y ∷ zs)) (sym i) ∙ e) in
-    (x ∷ r.0, ap (λ (ys : List Pending). x ∷ ys) r.1)
 
 under_rest : (cs : List Chain) (rests init : List Pending) (at : Pending) (es : List Entry) → rests ≡ init ++ at ∷ [] → Under (rests_of cs rests) es ≡ Under (rest_of cs at ∷ rests_of cs init) es
 under_rest cs rests init at es e = ap (λ (rs : List Rest). Under rs es) (ap (rests_of cs) e ∙ rests_push cs init at)
@@ -142,25 +114,22 @@ advances t known start p sound task next init at passed there can inside before 
     let own : List Rule = (chain_at t at.chain).rules in
     let same : rules_of t.chains (name_at t.chains at.chain) ≡ own = rules_by_name t (chain_at t at.chain) sound (Contains-get_or t.chains at.chain (empty_chain []) there) in
     let es : List Entry = entries_by known t.chains task.trail.items in
-    let P : Stage → Type 0 = λ s. Reaches t p s in
-    let Q : Scope → Type 0 = λ b. IsOf known p b in
-    let R : Rule → Type 0 = λ r. IsFalse (matches p.values r) in
     let apart : (k : ℕ) (rule : Rule) → at.passed ≤ k → k < passed → slice_get (rules_of t.chains (name_at t.chains at.chain)) k ≡ Some rule → IsFalse (matches p.values rule) =
     λ k rule lo hi found.
     (let is : get_or own k empty_rule ≡ rule = get_or_from_slice_get own k rule empty_rule (sym (ap (λ (rs : List Rule). slice_get rs k) same) ∙ found) in
-    subst R is (none k lo hi p.values can.packet.within inside waits.own.inside)) in
+    rw is at (none k lo hi p.values can.packet.within inside waits.own.inside)) in
     let moved : Reaches t p (Under (rest_of t.chains (record { chain = at.chain; passed = passed }) ∷ rests_of t.chains init) es) =
-    (let stands : Reaches t p (Under (rest_of t.chains at ∷ rests_of t.chains init) es) = subst P (under_rest t.chains task.rests.items init at es before) waits.reaches in
+    (let stands : Reaches t p (Under (rest_of t.chains at ∷ rests_of t.chains init) es) = rw (under_rest t.chains task.rests.items init at es before) at waits.reaches in
     elim high [
       | inl still ↦
           (let S : ℕ → Type 0 = λ j. Reaches t p (Under (rest_of t.chains (record { chain = at.chain; passed = j }) ∷ rests_of t.chains init) es) in
           subst S (sym still) stands)
       | inr le ↦ passes_at_once t p (rest_of t.chains at) passed (rests_of t.chains init) es low (omega (arith, le, ap (λ (rs : List Rule). length rs) same)) apart stands
     ]) in
-    let there_now : Reaches t p (Under (rests_of t.chains next.rests.items) es) = subst P (sym (under_rest t.chains next.rests.items init (record { chain = at.chain; passed = passed }) es after)) moved in
+    let there_now : Reaches t p (Under (rests_of t.chains next.rests.items) es) = rw (← under_rest t.chains next.rests.items init (record { chain = at.chain; passed = passed }) es after) at moved in
     record {
-      own = subst Q (sym scope) waits.own;
-      reaches = subst P (ap (λ (steps : List Step). Under (rests_of t.chains next.rests.items) (entries_by known t.chains steps)) (sym (ap items_of trail))) there_now;
+      own = rw (← scope) at waits.own;
+      reaches = rw (ap (λ (steps : List Step). Under (rests_of t.chains next.rests.items) (entries_by known t.chains steps)) (sym (ap items_of trail))) at there_now;
     }
   where
     items_of : Vec Step Global → List Step
@@ -217,11 +186,7 @@ met_is s a at = ap (λ (k : ℕ). all_hold a (needs_at s.needs.now at.chain k)) 
 -- where the answers are right, that is so of one that can be followed, unless its target leaves a packet where it is
 pub met_or_stays : (s : Subject) (a : Assignment) (at : Pending) (answers : List Answer) (to : Option Target) → CanFollow (needs_at s.needs.now at.chain at.passed) answers to → Agrees a answers
     → IsTrue (is_met (known_by s a) (step_before (behind at))) ⊎ Stays to
-met_or_stays s a at answers to can agrees =
-    elim (can a agrees) [
-      | inl held ↦ inl (met_is s a at ∙ held)
-      | inr stays ↦ inr stays
-    ]
+met_or_stays s a at answers to can agrees = elim (can a agrees) [ inl held ↦ inl (met_is s a at ∙ held) | inr stays ↦ inr stays ]
 
 -- ---- a rule that is tested
 
@@ -314,10 +279,7 @@ module _ (s : Subject) (a : Assignment) (sound : IsSound (table_of s)) (policy :
         | inr un ↦ elim (stays_or_not (target_of rule)) [
           | inl there ↦ hands box inside answers outside old mid new cut un there over h
           | inr leads ↦ (
-              let wrong : Agrees a answers → ⊥ = λ agrees. elim (can a agrees) [
-                | inl held ↦ true≢false (sym held ∙ un)
-                | inr there ↦ leads there
-              ] in
+              let wrong : Agrees a answers → ⊥ = λ agrees. elim (can a agrees) [ inl held ↦ true≢false (sym held ∙ un) | inr there ↦ leads there ] in
               wrong_passes t known policy (under box answers) (under inside answers) outside here after followed old mid new wrong wrong over h)
         ]
       ]

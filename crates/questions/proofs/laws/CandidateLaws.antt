@@ -1,8 +1,7 @@
 -- The rules of a table that may match packets of a box.
-use Rattle.std.proofs.Common.{◌≡◌, ◌⊎◌, inl, inr, ℕ, ◌+◌, ◌-◌, ◌<◌, ◌≤◌, List, [], ◌∷◌, ◌++◌, length, get_or, map, sym, ◌∙◌, ap, arith, subst, Vec, Global}
-use Rattle.std.specs.Prelude.{slice_index}
+use Rattle.std.proofs.Common.{◌≡◌, ◌⊎◌, inl, inr, ℕ, ◌+◌, ◌-◌, ◌<◌, ◌≤◌, List, [], ◌∷◌, ◌++◌, length, get_or, map, sym, ◌∙◌, ap, arith, subst, Vec, Global, slice_index, length-append}
 use Rattle.std.proofs.lemmas.Bool.{cases_eq, cases_lt}
-use Rattle.std.proofs.lemmas.List.{get_or_append_left, get_or_default, get_or_past, get_or_push, get_or-map, length-append, length-map}
+use Rattle.std.proofs.lemmas.List.{get_or_append_left, get_or_default, get_or_past, get_or_push, get_or-map, length-map}
 use Rattle.fields.specs.numbers.Spans.{SpanSet}
 use Rattle.rules.specs.rule.Rules.{Rule, empty_rule}
 use Rattle.classify.specs.Classifier.{IsPoint}
@@ -34,11 +33,9 @@ passes_more P count nexts more next new done within is here before = record {
       let there : k < get_or (nexts ++ new ∷ []) back 0 = subst Q is less in
       elim (cases_lt back done) [
         | inl early ↦ (
-            let R : ℕ → Type 0 = λ n. k < n in
-            before.each back k early le (subst R (get_or_append_left nexts (new ∷ []) 0 back (omega (arith, early, before.long))) there))
+            before.each back k early le (rw (get_or_append_left nexts (new ∷ []) 0 back (omega (arith, early, before.long))) at there))
         | inr late ↦ (
-            let R : ℕ → Type 0 = λ n. k < n in
-            last k (omega (arith, le, lt)) (subst R (get_or_push nexts new 0 back (omega (arith, lt, late, before.long))) there))
+            last k (omega (arith, le, lt)) (rw (get_or_push nexts new 0 back (omega (arith, lt, late, before.long))) at there))
       ]);
   last = last;
 }
@@ -79,10 +76,9 @@ items_of nexts = nexts.items
 
 pub all_candidates : (t : Table) (looks : ℕ) (box : List SpanSet) (chains : Vec (Vec ℕ Global) Global) (n : ℕ) → NextsOfChains t box chains.items n → AreCandidates t box (record { looks = looks; start = box; chains = chains })
 all_candidates t looks box chains n pairs place =
-    let P : List ℕ → Type 0 = λ ns. AreNexts (chain_at t place).rules box ns in
     elim (cases_lt place n) [
-      | inl lt ↦ subst P (sym (get_or-map items_of chains.items place (within place lt) [] (omega (arith, lt, pairs.long)))) (pairs.each place (empty_chain []) (within place lt) lt)
-      | inr le ↦ subst P (sym (get_or_past (map items_of chains.items) place [] (omega (arith, le, pairs.long, length-map chains.items items_of)))) (λ back k lt. absurd (omega (arith, lt)))
+      | inl lt ↦ rw (← get_or-map items_of chains.items place (within place lt) [] (omega (arith, lt, pairs.long))) at (pairs.each place (empty_chain []) (within place lt) lt)
+      | inr le ↦ rw (get_or_past (map items_of chains.items) place [] (omega (arith, le, pairs.long, length-map chains.items items_of))) (λ back k lt. absurd (omega (arith, lt)))
     ]
   where
     within : (k : ℕ) → k < n → Vec ℕ Global
@@ -111,16 +107,8 @@ pub found_for : (t : Table) (looks : ℕ) (start box : List SpanSet) (chains : V
     → AreFor t box (record { looks = looks; start = start; chains = chains })
 found_for t looks start box chains within are = record { within = within; others = nexts_within t start box (record { looks = looks; start = start; chains = chains }) within are }
 
--- what is a candidate for a box may be one for a part of it, and nothing else is
-pub candidates_within : (t : Table) (box part : List SpanSet) (candidates : Candidates) → ((numbers : List ℕ) → IsPoint numbers → Has part numbers → Has box numbers) → AreFor t box candidates → AreFor t part candidates
-candidates_within t box part candidates inside are = record {
-  within = λ numbers point has. are.within numbers point (inside numbers point has);
-  others = nexts_within t box part candidates inside are.others;
-}
-
 -- the next candidate in a chain
 pub next_candidate : (t : Table) (box : List SpanSet) (candidates : Candidates) (chain passed : ℕ) (nexts : List ℕ) → AreFor t box candidates → nexts ≡ nexts_at candidates chain → passed < length nexts → (k : ℕ) → passed ≤ k → k < slice_index nexts (length nexts - 1 - passed)
     → IsApart (get_or (chain_at t chain).rules k empty_rule) box
 next_candidate t box candidates chain passed nexts are is within k le less =
-    let P : List ℕ → Type 0 = λ ns. AreNexts (chain_at t chain).rules box ns in
-    (subst P (sym is) (are.others chain)) (length nexts - 1 - passed) k (omega (arith, within)) (omega (arith, within, le)) less
+    (rw (← is) at (are.others chain)) (length nexts - 1 - passed) k (omega (arith, within)) (omega (arith, within, le)) less

@@ -1,9 +1,8 @@
 -- The numbers that are chosen of a box, names of interfaces among them, are those of a packet that can be written.
-use Rattle.std.proofs.Common.{◌≡◌, ◌≢◌, inl, inr, ℕ, zero, suc, ◌+◌, ◌-◌, ◌*◌, ◌/◌, ◌%◌, ◌^◌, ◌<◌, ◌≤◌, Bool, true, false, cond, Option, None, Some, MatchOption, List, [], ◌∷◌, length, refl, sym, ap, subst, ◌∙◌, arith, ◌⊎◌, max, get_or, map, unwrap_or}
-use Rattle.std.specs.Prelude.{Result, Ok, Err}
+use Rattle.std.proofs.Common.{◌≡◌, ◌≢◌, inl, inr, ℕ, zero, suc, ◌+◌, ◌-◌, ◌*◌, ◌/◌, ◌%◌, ◌^◌, ◌<◌, ◌≤◌, Bool, true, false, cond, Option, None, Some, MatchOption, List, [], ◌∷◌, length, refl, sym, ap, subst, ◌∙◌, arith, ◌⊎◌, max, get_or, map, unwrap_or, Result, Ok, Err, lt-ltb, le-leb, true≢false, leb-true, div-add-mod'}
 use Rattle.std.specs.List.{list_all}
-use Rattle.std.proofs.lemmas.Bool.{and_parts, and_from, cases_order, lt-ltb, le-leb, true≢false, or_cases, leb-true}
-use Rattle.std.proofs.lemmas.Nat.{mul-add-lt, div-add-mod', mod_below}
+use Rattle.std.proofs.lemmas.Bool.{and_parts, and_from, cases_order, or_cases}
+use Rattle.std.proofs.lemmas.Nat.{mul-add-lt, mod_below}
 use Rattle.std.proofs.Math.Nat.{pow-suc, pow-le-pow_right, mul-le-mul_right}
 use Rattle.std.specs.Option.{IfSome, IsNone}
 use Rattle.std.proofs.Math.Dec.{leb}
@@ -146,23 +145,18 @@ module _ (after number : ℕ) (more : after ≢ 0) (some : number ≢ 0) (unit :
   split : (k : ℕ) → after ≡ suc k → IsSplit (256 ^ suc k) number (number / unit) (number % unit)
   split k e =
       let same : unit ≡ 256 ^ suc k = is ∙ ap (λ n. 256 ^ n) e in
-      let P : ℕ → Type 0 = λ u. IsSplit u number (number / unit) (number % unit) in
       let power = power-some (suc k) in
-      subst P same (record { whole = sym (div-add-mod' number unit); small = mod_below number unit (omega arith); some = omega arith })
+      rw (← same) (record { whole = sym (div-add-mod' number unit); small = mod_below number unit (omega arith); some = omega arith })
 
   pub least-stays : (t : ℕ) → IsNameByte (number / unit) → IsLeast (IsTail (after - 1)) (number % unit) t → IsLeast (IsTail after) number (number / unit * unit + t)
   least-stays t named least =
       let e : after ≡ suc (after - 1) = omega arith in
-      let P : ℕ → Type 0 = λ k. IsLeast (IsTail k) number (number / unit * unit + t) in
-      let U : ℕ → Type 0 = λ u. IsLeast (IsTail (suc (after - 1))) number (number / unit * u + t) in
-      subst P (sym e) (subst U (sym (is ∙ ap (λ n. 256 ^ n) e)) (stays (after - 1) number (number / unit) (number % unit) (split (after - 1) e) t named least))
+      rw (← e) at (rw (← (is ∙ ap (λ n. 256 ^ n) e)) at (stays (after - 1) number (number / unit) (number % unit) (split (after - 1) e) t named least))
 
   pub least-raised : (next : ℕ) → (IsNameByte (number / unit) → HasNoneFrom (IsTail (after - 1)) (number % unit)) → IsLeast IsNameByte (number / unit + 1) next → IsLeast (IsTail after) number (next * unit)
   least-raised next none least =
       let e : after ≡ suc (after - 1) = omega arith in
-      let P : ℕ → Type 0 = λ k. IsLeast (IsTail k) number (next * unit) in
-      let U : ℕ → Type 0 = λ u. IsLeast (IsTail (suc (after - 1))) number (next * u) in
-      subst P (sym e) (subst U (sym (is ∙ ap (λ n. 256 ^ n) e)) (raised (after - 1) number (number / unit) (number % unit) (split (after - 1) e) next none least))
+      rw (← e) at (rw (← (is ∙ ap (λ n. 256 ^ n) e)) at (raised (after - 1) number (number / unit) (number % unit) (split (after - 1) e) next none least))
 
   pub none-stuck : (IsNameByte (number / unit) → HasNoneFrom (IsTail (after - 1)) (number % unit)) → HasNoneFrom IsNameByte (number / unit + 1) → HasNoneFrom (IsTail after) number
   none-stuck none last =
@@ -233,12 +227,6 @@ from-number n h = elim h.1 [
 pub to-number : (n : ℕ) → IsTail 15 n → IsInterfaceNumber n
 to-number n t = let found = from-tail 15 n t in (found.0, name_from found.0 found.1 found.2, found.3 ∙ value_of-name found.0 found.1)
 
-pub least-number : (from n : ℕ) → IsLeast (IsTail 15) from n → IsLeast IsInterfaceNumber from n
-least-number from n h = record { is = to-number n h.is; above = h.above; least = λ m is le. h.least m (from-number m is) le }
-
-pub none-number : (from : ℕ) → HasNoneFrom (IsTail 15) from → HasNoneFrom IsInterfaceNumber from
-none-number from h n is le = h n (from-number n is) le
-
 -- ---- The numbers that are chosen of a box.
 
 -- ---- interfaces
@@ -305,10 +293,6 @@ member_fits most low (span ∷ spans) number are there =
       | inr later ↦ member_fits most (span.last + 2) spans number are.3 later
     ]
 
--- where a field has no number there is no packet
-none_picked : (box : List SpanSet) (hook : Hook) (f : Field) → set_on f box ≡ [] → HasNone hook box
-none_picked box hook f bare p can e inside = true≢false (sym (on_field box p.values f inside.each) ∙ ap (λ (ss : List Interval). has ss (point p f)) bare)
-
 -- on a field of which nothing more is said
 own_other : (kind : Kind) (f : Field) (number : ℕ) → (f ≡ field.Protocol → ⊥) → (f ≡ field.Fragment → ⊥) → (f ≡ field.InIface → ⊥) → (f ≡ field.OutIface → ⊥) → IsOwn kind f number
 own_other kind field.Protocol number p g i o = absurd (p refl)
@@ -336,7 +320,7 @@ module _ (box : List SpanSet) (kind : Kind) (f : Field) (set : SpanSet) (does : 
     (p : f ≡ field.Protocol → ⊥) (g : f ≡ field.Fragment → ⊥) (i : f ≡ field.InIface → ⊥) (o : f ≡ field.OutIface → ⊥) where
   pub picked_on : (found : Option ℕ) → (IsNone found → set.intervals ≡ []) → IfSome found (λ n. n ≤ set.top) → IfSome found (λ n. has set.intervals n ≡ true)
       → MatchOption found (HasNone kind.hook box) (IsNumberOn box kind f)
-  picked_on None none within there = none_picked box kind.hook f (sym own ∙ none refl)
+  picked_on None none within there = λ p can e inside. true≢false (sym (on_field box p.values f inside.each) ∙ ap (λ (ss : List Interval). has ss (point p f)) (sym own ∙ none refl))
   picked_on (Some n) none within there =
       carried_on box kind f n does (omega (arith, within, most)) (ap (λ (ss : List Interval). has ss n) (sym own) ∙ there) (own_other kind f n p g i o)
 

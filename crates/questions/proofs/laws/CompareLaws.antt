@@ -1,13 +1,12 @@
 -- Two tables compared: what they have in common, and the rules in which they differ.
-use Rattle.std.proofs.Common.{◌≡◌, inl, inr, ℕ, ◌+◌, ◌<◌, ◌≤◌, get_or, arith, subst, List, [], sym, ◌∙◌, ap, All, ◌⊎◌, false, Bor, ◌≢◌, zero, suc, Bool, true, ◌∷◌, refl, Contains}
-use Rattle.std.specs.Prelude.{Any, IsFalse}
-use Rattle.std.proofs.lemmas.Bool.{cases_lt, true≢false, cases_Bool}
+use Rattle.std.proofs.Common.{◌≡◌, inl, inr, ℕ, ◌+◌, ◌<◌, ◌≤◌, get_or, arith, subst, List, [], sym, ◌∙◌, ap, All, ◌⊎◌, ◌≢◌, Bool, true, Contains, Any, IsFalse, true≢false}
+use Rattle.questions.proofs.laws.DifferLaws.{some_or_all}
+use Rattle.std.proofs.lemmas.Bool.{cases_lt, cases_Bool}
 use Rattle.std.proofs.lemmas.List.{get_or_default}
 use Rattle.std.proofs.lemmas.List.Elements.{All-contains, Contains-get_or}
 use Rattle.fields.specs.declared.packet.hook.Hook.{Hook}
 use Rattle.fields.specs.declared.packet.hook.Hook.TheVariants.{Input, Forward, Output}
 use Rattle.fields.specs.Hook.{all_hooks}
-use Rattle.fields.specs.numbers.Spans.{SpanSet}
 use Rattle.table.specs.declared.walk.trail.Step.{Step}
 use Rattle.table.specs.walk.Walk.{Walked, Entry, end_verdict, walk}
 use Rattle.table.specs.chains.Table.{Table}
@@ -15,12 +14,12 @@ use Rattle.fields.specs.Packet.{PacketView as Packet}
 use Rattle.rules.specs.rule.Allows.{matches}
 use Rattle.table.specs.declared.verdict.Verdict.TheVariants.{TooLong}
 use Rattle.questions.specs.Ends.{IsRule, rule_at}
-use Rattle.questions.specs.Foreign.{Agrees, AreConsistent, Assignment}
-use Rattle.questions.specs.asked.Verdicts.{IsOtherAt, IsOther, IsSame, IsSameAt, Says, SaysAt, IsAlike}
-use Rattle.questions.specs.Scopes.{AreExactUnder, AreLeavesUnder, IsOf, ShowsUnder, answered, known_by, scope_of, table_of, whole_of, Whole, all_of}
+use Rattle.questions.specs.Foreign.{AreConsistent, Assignment}
+use Rattle.questions.specs.asked.Verdicts.{IsOtherAt, IsSameAt, IsAlike}
+use Rattle.questions.specs.Scopes.{AreExactUnder, AreLeavesUnder, IsOf, ShowsUnder, answered, known_by, scope_of, table_of, whole_of, Whole}
 use Rattle.questions.specs.asked.Alike.{HoldsWith, IsAlwaysSettled, IsGivenBy, IsOfOther, IsSameOn, SaysIf, IsAlwaysSameAt}
-use Rattle.questions.specs.asked.Differing.{IsUnclearIf, MayDiffer, MayDifferSomewhere, IsOfRule, MayDifferOn}
-use Rattle.questions.specs.boxes.Boxes.{IsAtHook, IsBoth, IsIn}
+use Rattle.questions.specs.asked.Differing.{IsUnclearIf, MayDiffer, IsOfRule, MayDifferOn}
+use Rattle.questions.specs.boxes.Boxes.{IsAtHook, IsBoth}
 use Rattle.questions.specs.declared.asked.likeness.Likeness.{Likeness}
 use Rattle.questions.specs.declared.asked.other.Shown.{Shown}
 use Rattle.questions.specs.declared.foreign.answers.Answer.{Answer}
@@ -32,15 +31,11 @@ use Rattle.questions.specs.steps.Compared.{AreWalked, IsSettled, MayDifferOf}
 use Rattle.questions.specs.steps.Takers.{IsScopeAt, needs_of, IsMatchedAt}
 use Rattle.questions.specs.asked.Changes.{AreChanges, AreChangesUnder, AreThese, IsUntouched}
 use Rattle.questions.specs.declared.asked.changes.Changes.{Changes}
-use Rattle.questions.specs.declared.boxes.boxed_table.BoxedTable.{BoxedTable}
-use Rattle.questions.specs.declared.foreign.need.Need.{Need}
 use Rattle.questions.specs.Leaves.{entry_of}
 use Rattle.questions.specs.declared.asked.likeness.Likeness.TheVariants as likeness
-use Rattle.questions.specs.asked.Alike as Alike
 use Rattle.questions.proofs.laws.PacketLaws.{written_at_hooks}
-use Rattle.questions.proofs.laws.PlainLaws.{gives_none, to_plain}
+use Rattle.questions.proofs.laws.PlainLaws.{gives_none}
 use Rattle.questions.proofs.laws.ResolvedLaws.{held_before, matched_before, entry_left, rule_back, rule_left_there}
-use Rattle.questions.proofs.laws.AnswerLaws.{some_assignment_gives}
 use Rattle.questions.proofs.laws.ElsewhereLaws.{off_the_walk}
 use Rattle.questions.proofs.laws.SharedLaws.{are_off, matches_none}
 
@@ -58,8 +53,7 @@ hooks_next P n lt here below k h less =
       | inl before ↦ below k h before
       | inr past ↦ (
           let same : n ≡ k = omega (arith, less, past) in
-          let Q : ℕ → Type 0 = λ j. P (get_or all_hooks j h) in
-          subst Q same (subst P (get_or_default all_hooks n Input h (omega (arith, lt))) here))
+          rw same at (subst P (get_or_default all_hooks n Input h (omega (arith, lt))) here))
     ]
 
 -- ---- What two tables have in common, whatever holds that their rules need.
@@ -78,15 +72,13 @@ given_in new hook leaf found walked alike a p can there own =
 pub other_in : (old new : Subject) (hook : Hook) (leaf : Leaf) (start : Scope) (found : List Leaf) (shown : Shown) → IsBoth leaf.area leaf.area start.area → start.answers ≡ leaf.answers → IsGivenBy old hook leaf
     → ((a : Assignment) → AreExactUnder (answered new a) (known_by new a) hook start found) → IsOfOther hook leaf.verdict found shown → HoldsWith shown.answers (λ a. IsOtherAt (answered old a) (answered new a) hook shown.words)
 other_in old new hook leaf start found shown copy same given exact (k, other, lt, is, (differs, answers, (p, sample))) =
-    let P : List Answer → Type 0 = λ l. (a : Assignment) → Agrees a l → IsOtherAt (answered old a) (answered new a) hook shown.words in
     record {
       consistent = (let C : List Answer → Type 0 = λ l. AreConsistent l in subst C (sym answers) other.consistent);
-      each = subst P (sym answers) (λ a agrees.
+      each = rw answers (λ a agrees.
           let can : IsAtHook p = written_at_hooks shown.words p sample.writes in
           let shows : ShowsUnder (answered new a) (known_by new a) start p other = All-contains (ShowsUnder (answered new a) (known_by new a) start p) found other (exact a p can sample.there) (k, lt, is) in
-          let A : List Answer → Type 0 = λ l. Agrees a l in
           let (own, walked) = shows (record { inside = sample.inside; agrees = agrees }) in
-          let before : IsOf (known_by old a) p (scope_of leaf) = record { inside = copy.first p.values can.packet.within own.inside; agrees = subst A same own.agrees } in
+          let before : IsOf (known_by old a) p (scope_of leaf) = record { inside = copy.first p.values can.packet.within own.inside; agrees = rw same at own.agrees } in
           (p, sample.writes, sample.there, λ one. differs (sym (ap (λ (w : Walked). w.verdict) walked) ∙ sym one ∙ given a p can sample.there before)));
     }
 
@@ -118,94 +110,23 @@ pub settled_on : (own old new : Subject) (hook : Hook) (step : Step) (scope : Sc
 settled_on own old new hook step scope is (given, boxed, same, meets) on a =
     inl (λ p at.
     let before : IsMatchedAt (table_of own) step hook p = matched_before own.needs.now a (table_of own) step hook p is at in
-    let P : List SpanSet → Type 0 = λ box. IsIn box p in
-    on a p at.can at.there (record { inside = subst P same (boxed.all p before); agrees = meets.all a (gives_none a) (held_before own.needs.now a (table_of own) step hook p is at) }))
+    on a p at.can at.there (record { inside = rw same at (boxed.all p before); agrees = meets.all a (gives_none a) (held_before own.needs.now a (table_of own) step hook p is at) }))
 
 -- where no assignment meets what it needs, it matches none
 pub settled_never : (own old new : Subject) (hook : Hook) (step : Step) → IsRule (table_of own) step → MeetsNever (needs_of own.needs.now step) [] → IsAlwaysSettled own old new hook step
 settled_never own old new hook step is never a =
     inl (λ p at. absurd (true≢false (sym (held_before own.needs.now a (table_of own) step hook p is at) ∙ never a (gives_none a))))
 
--- ---- Two tables in which no rule needs anything: what is said for every assignment is said of the tables themselves.
-
--- a table, and what its rules need
-abbrev pub subject_of : Bor BoxedTable → List (List (List Need)) → Subject
-subject_of boxed needs = record { boxed = boxed; needs = record { ref_ptr = boxed.ref_ptr; now = needs } }
-
--- under which nothing holds
-abbrev pub nothing : Assignment
-nothing condition = false
-
--- it is the whole of a table in which no rule needs anything
-as_all : (s : Subject) → s.needs.now ≡ [] → (P : Whole → Type 0) → P (whole_of s) → P (all_of (table_of s))
-as_all s none P h = let Q : List (List (List Need)) → Type 0 = λ ns. P (record { table = table_of s; needs = ns }) in subst Q none h
-
-module _ (old new : Subject) (none : old.needs.now ≡ []) (too : new.needs.now ≡ []) where
-  pub both_plain : (P : Table → Table → Type 0) (a : Assignment) → P (answered old a) (answered new a) → P (table_of old) (table_of new)
-  both_plain P a h = to_plain old none (λ t. P t (table_of new)) a (to_plain new too (λ u. P (answered old a) u) a h)
-
-  pub plain_says : (said : Likeness) → Alike.Says old new said → Says (table_of old) (table_of new) said
-  plain_says likeness.Same h = both_plain IsSame nothing (h nothing)
-  plain_says (likeness.Differ words answers) h =
-      let (a, agrees) = some_assignment_gives answers h.consistent in
-      both_plain (λ t u. IsOther t u words) a (h.each a agrees)
-  plain_says likeness.Unclear h = tt
-
-  pub plain_says_at : (hook : Hook) (said : Likeness) → SaysIf (IsAlwaysSameAt old new hook) old new hook said → SaysAt (table_of old) (table_of new) hook said
-  plain_says_at hook likeness.Same h = both_plain (λ t u. IsSameAt t u hook) nothing (h nothing)
-  plain_says_at hook (likeness.Differ words answers) h =
-      let (a, agrees) = some_assignment_gives answers h.consistent in
-      both_plain (λ t u. IsOtherAt t u hook words) a (h.each a agrees)
-  plain_says_at hook likeness.Unclear h = tt
-
-  -- and so of both tables
-  both_whole : (P : Whole → Whole → Type 0) → P (whole_of old) (whole_of new) → P (all_of (table_of old)) (all_of (table_of new))
-  both_whole P h = as_all old none (λ t. P t (all_of (table_of new))) (as_all new too (λ u. P (whole_of old) u) h)
-
-  abbrev Always : ℕ → Hook → Type 0
-  Always budget hook = MayDiffer (whole_of old) (whole_of new) hook budget
-
-  abbrev Plainly : ℕ → Hook → Type 0
-  Plainly budget hook = MayDiffer (all_of (table_of old)) (all_of (table_of new)) hook budget
-
-  plain_may : (budget : ℕ) (hook : Hook) → Always budget hook → Plainly budget hook
-  plain_may budget hook may = both_whole (λ t u. MayDiffer t u hook budget) may
-
-  pub plain_unclear_at : (budget : ℕ) (hook : Hook) (said : Likeness) → IsUnclearIf (Always budget hook) said → IsUnclearIf (Plainly budget hook) said
-  plain_unclear_at budget hook said h = unclear_as (Always budget hook) (Plainly budget hook) said (plain_may budget hook) h
-
-  pub plain_unclear : (budget : ℕ) (said : Likeness) → IsUnclearIf (MayDifferSomewhere (IsAlwaysSameAt old new) (Always budget)) said → IsUnclearIf (MayDifferSomewhere (IsSameAt (table_of old) (table_of new)) (Plainly budget)) said
-  plain_unclear budget said h = unclear_as (MayDifferSomewhere (IsAlwaysSameAt old new) (Always budget)) (MayDifferSomewhere (IsSameAt (table_of old) (table_of new)) (Plainly budget)) said (λ (each, (hook, may)). (by_hook each, (hook, plain_may budget hook may))) h
-    where
-      by_hook : ((hook : Hook) → IsAlwaysSameAt old new hook ⊎ Always budget hook) → (hook : Hook) → IsSameAt (table_of old) (table_of new) hook ⊎ Plainly budget hook
-      by_hook each hook = elim (each hook) [
-        | inl same ↦ inl (both_plain (λ t u. IsSameAt t u hook) nothing (same nothing))
-        | inr may ↦ inr (plain_may budget hook may)
-      ]
-
-  pub changes_plain : (changes : Changes) → ((a : Assignment) → AreChanges (answered old a) (answered new a) changes) → AreChanges (table_of old) (table_of new) changes
-  changes_plain changes are = both_plain (λ t u. AreChanges t u changes) nothing (are nothing)
-
-  pub unpaired_plain : (changes : Changes) → AreChangesUnder (whole_of old) (whole_of new) changes → AreChangesUnder (all_of (table_of old)) (all_of (table_of new)) changes
-  unpaired_plain changes are = both_whole (λ t u. AreChangesUnder t u changes) are
-
 -- ---- Two tables compared by the rules in which they differ.
 
 -- some of the rules matches the packet, or none does
 some_or_none : (t : Table) (p : Packet) (steps : List Step) → ((step : Step) × Contains steps step × (matches p.values (rule_at t step) ≡ true)) ⊎ ((step : Step) → Contains steps step → IsFalse (matches p.values (rule_at t step)))
-some_or_none t p [] = inr (λ step c. absurd (omega (arith, c.1)))
-some_or_none t p (s ∷ steps) =
-    elim (cases_Bool (matches p.values (rule_at t s))) [
-      | inl on ↦ inl (s, (0, omega arith, refl), on)
-      | inr off ↦ elim (some_or_none t p steps) [
-        | inl w ↦ inl (w.0, (suc w.1.0, omega (arith, w.1.1), w.1.2), w.2)
-        | inr none ↦ inr (λ step c. first_or_later step c off none)
-      ]
+some_or_none t p steps =
+    let Un : Step → Type 0 = λ step. IsFalse (matches p.values (rule_at t step)) in
+    elim (some_or_all (λ step. matches p.values (rule_at t step) ≡ true) Un steps (λ k d lt. cases_Bool (matches p.values (rule_at t (get_or steps k d))))) [
+      | inl (k, step, lt, is, on) ↦ inl (step, (k, lt, is), on)
+      | inr none ↦ inr (λ step c. All-contains Un steps step none c)
     ]
-  where
-    first_or_later : (step : Step) → Contains (s ∷ steps) step → IsFalse (matches p.values (rule_at t s)) → ((other : Step) → Contains steps other → IsFalse (matches p.values (rule_at t other))) → IsFalse (matches p.values (rule_at t step))
-    first_or_later step (zero, lt, e) off none = let P : Step → Type 0 = λ x. IsFalse (matches p.values (rule_at t x)) in subst P e off
-    first_or_later step (suc k, lt, e) off none = none step (k, omega (arith, lt), e)
 
 -- the rule is off the packet's walk if it matches the packet
 abbrev OffIf : Table → Packet → Step → Type 0
@@ -218,9 +139,9 @@ settled t old new these hook steps p are all can there =
       | inr none ↦ inr (inl (matches_none t these steps p are none))
       | inl w ↦ elim (each w.0 w.1 w.2) [
         | inl alike ↦ inl alike
-        | inr short ↦ elim (all_off steps (λ step c. c)) [
-          | inl alike ↦ inl alike
-          | inr off ↦ inr (inr (are_off t these steps p are short.1 off))
+        | inr short ↦ elim (some_or_all (λ step. IsAlike old new p) (OffIf t p) steps alike_or_off) [
+          | inl one ↦ inl one.4
+          | inr off ↦ inr (inr (are_off t these steps p are short.1 (λ step c. All-contains (OffIf t p) steps step off c)))
         ]
       ]
     ]
@@ -228,30 +149,16 @@ settled t old new these hook steps p are all can there =
     each : (step : Step) → Contains steps step → matches p.values (rule_at t step) ≡ true → IsAlike old new p ⊎ ((Contains (walk t p).trail (entry_of t.chains step) → ⊥) × ((walk t p).verdict ≢ TooLong))
     each step c m =
         let at : IsMatchedAt t step hook p = record { can = can; there = there; matched = m } in
-        elim (All-contains (IsSettled t old new hook) steps step all c) [
-          | inl same ↦ inl (same p at)
-          | inr dead ↦ inr (dead.0 p can there, dead.1 p at)
-        ]
+        elim (All-contains (IsSettled t old new hook) steps step all c) [ inl same ↦ inl (same p at) | inr dead ↦ inr (dead.0 p can there, dead.1 p at) ]
 
-    -- all of these rules that match are off the walk, or one of them gives the same verdict
-    all_off : (some : List Step) → ((step : Step) → Contains some step → Contains steps step)
-        → IsAlike old new p ⊎ ((step : Step) → Contains some step → OffIf t p step)
-    all_off [] within = inr (λ step c. absurd (omega (arith, c.1)))
-    all_off (s ∷ some) within =
-        elim (all_off some (λ step c. within step (suc c.0, omega (arith, c.1), c.2))) [
-          | inl alike ↦ inl alike
-          | inr later ↦ elim (cases_Bool (matches p.values (rule_at t s))) [
-            | inr un ↦ inr (λ step c. by_place step c (λ m. absurd (true≢false (sym m ∙ un))) later)
-            | inl m ↦ elim (each s (within s (0, omega arith, refl)) m) [
-              | inl alike ↦ inl alike
-              | inr off ↦ inr (λ step c. by_place step c (λ _. off.0) later)
-            ]
-          ]
+    -- each of these rules that matches is off the walk, or gives the same verdict
+    alike_or_off : All (λ step. IsAlike old new p ⊎ OffIf t p step) steps
+    alike_or_off k d lt =
+        let step : Step = get_or steps k d in
+        elim (cases_Bool (matches p.values (rule_at t step))) [
+          | inr un ↦ inr (λ m. absurd (true≢false (sym m ∙ un)))
+          | inl m ↦ elim (each step (Contains-get_or steps k d lt) m) [ inl alike ↦ inl alike | inr off ↦ inr (λ _. off.0) ]
         ]
-      where
-        by_place : (step : Step) → Contains (s ∷ some) step → OffIf t p s → ((x : Step) → Contains some x → OffIf t p x) → OffIf t p step
-        by_place step (zero, lt, e) here later = subst (OffIf t p) e here
-        by_place step (suc k, lt, e) here later = later step (k, omega (arith, lt), e)
 
 -- what is said of each changed rule is so, and so all packets at the hook get the same verdict
 same_at : (old new : Table) (hook : Hook) (changes : Changes) → AreChanges old new changes → ((p : Packet) → p.hook ≡ hook → end_verdict old p ≡ end_verdict new p)

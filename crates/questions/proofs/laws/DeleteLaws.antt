@@ -1,10 +1,10 @@
 -- Commands that delete rules by number: they are accepted, what they leave, and that dead rules can go.
-use Rattle.std.proofs.Common.{◌≡◌, inl, inr, ℕ, ◌+◌, ◌-◌, ◌<◌, ◌≤◌, Bool, true, false, cond, not, List, [], ◌∷◌, ◌++◌, length, map, refl, sym, ◌∙◌, ap, arith, subst, Ok, None, ap₂}
-use Rattle.std.specs.Prelude.{remove, nat_lt, ◌==◌, ◌||◌, ◌&&◌}
+use Rattle.std.proofs.Common.{◌≡◌, inl, inr, ℕ, ◌+◌, ◌-◌, ◌<◌, ◌≤◌, Bool, true, false, cond, not, List, [], ◌∷◌, ◌++◌, length, map, refl, sym, ◌∙◌, ap, arith, subst, Ok, None, ap₂, get_or, remove, nat_lt, ◌==◌, ◌||◌, ◌&&◌, true≢false, append_assoc, length-append}
+use Rattle.std.proofs.lemmas.Simd.{map-map}
+use Rattle.std.proofs.lemmas.List.Folds.{map_fixed}
 use Rattle.std.specs.List.{list_any}
-use Rattle.std.proofs.lemmas.Bool.{cases_Bool, cond-true, cond-false, false_from_ne_true, or_left, or_right, true≢false}
+use Rattle.std.proofs.lemmas.Bool.{cases_Bool, cond-true, cond-false, false_from_ne_true, or_left, or_right}
 use Rattle.std.proofs.lemmas.Bool.Decides.{nat_tests}
-use Rattle.std.proofs.lemmas.List.{append_assoc, length-append}
 use Rattle.std.proofs.lemmas.List.Edits.{remove-append_right}
 use Rattle.std.proofs.lemmas.Slice.Eq.{bytes_eq-Decides}
 use Rattle.std.specs.Str.{bytes_eq}
@@ -21,7 +21,6 @@ use Rattle.table.specs.chains.Sound.{IsSound}
 use Rattle.questions.specs.asked.Laws.{DeletionsLeaveTheRest, DeadRulesCanGoRenumbered, DeadRulesCanGoUnder}
 use Rattle.questions.specs.asked.Without.{chain_without, deletions, deletions_in, going, goes_of, staying, without, needs_without, renumbered}
 use Rattle.questions.specs.Foreign.{Assignment, all_hold, need_holds, never, resolved, resolved_chains, resolved_rule, resolved_rules}
-use Rattle.questions.specs.asked.Verdicts.{IsAlike}
 use Rattle.questions.specs.declared.foreign.need.Need.{Need}
 use Rattle.questions.proofs.laws.WithoutLaws.{dead_can_go}
 
@@ -89,17 +88,9 @@ going_are goes before front (rule ∷ rules) long =
 
 -- ---- lists
 
-map_map : {X Y Z : Type 0} (f : X → Y) (g : Y → Z) (xs : List X) → map g (map f xs) ≡ map (λ x. g (f x)) xs
-map_map f g [] = refl
-map_map f g (x ∷ xs) = ap (λ zs. g (f x) ∷ zs) (map_map f g xs)
-
 map_on : {X Y : Type 0} (f g : X → Y) (xs : List X) → ((x : X) → Mem x xs → f x ≡ g x) → map f xs ≡ map g xs
 map_on f g [] same = refl
 map_on f g (x ∷ xs) same = ap (λ y. y ∷ map f xs) (same x (inl refl)) ∙ ap (λ ys. g x ∷ ys) (map_on f g xs (λ z m. same z (inr m)))
-
-map_own : {X : Type 0} (f : X → X) (xs : List X) → ((x : X) → f x ≡ x) → map f xs ≡ xs
-map_own f [] same = refl
-map_own f (x ∷ xs) same = ap (λ y. y ∷ map f xs) (same x) ∙ ap (λ ys. x ∷ ys) (map_own f xs same)
 
 -- ---- commands
 
@@ -135,11 +126,11 @@ twice f g name c =
     ]
 
 deleted : (name : List ℕ) (ns : List ℕ) (t : Table) → after (map (λ n. DeleteAt name n) ns) t ≡ changed (removed ns) name t
-deleted name [] t = ap (with_chains t) (sym (map_own (changed_chain (removed []) name) t.chains (unchanged name)))
+deleted name [] t = ap (with_chains t) (sym (map_fixed (changed_chain (removed []) name) t.chains (λ k d lt. unchanged name (get_or t.chains k d))))
 deleted name (n ∷ ns) t =
     let f : List Rule → List Rule = λ rules. remove rules (n - 1) in
     deleted name ns (changed f name t)
-    ∙ ap (with_chains t) (map_map (changed_chain f name) (changed_chain (removed ns) name) t.chains
+    ∙ ap (with_chains t) (map-map (changed_chain (removed ns) name) (changed_chain f name) t.chains
     ∙ map_on (λ c. changed_chain (removed ns) name (changed_chain f name c)) (changed_chain (λ rules. removed ns (f rules)) name) t.chains (λ c m. twice f (removed ns) name c))
 
 -- ---- commands that are accepted
@@ -211,8 +202,7 @@ own_rules [] x d m = absurd m
 own_rules (c ∷ cs) x d (inl e) =
     cond-true (is_named x.name c) c.rules (rules_of cs x.name) ((bytes_eq-Decides c.name x.name).1 (ap (λ (y : Chain). y.name) (sym e))) ∙ ap (λ (y : Chain). y.rules) (sym e)
 own_rules (c ∷ cs) x d (inr m) =
-    let P : List ℕ → Type 0 = λ n. Mem n (names_of cs) in
-    let apart : is_named x.name c ≡ false = false_from_ne_true (is_named x.name c) (λ is. d.0 (subst P (sym ((bytes_eq-Decides c.name x.name).0 is)) (mem_name cs x m))) in
+    let apart : is_named x.name c ≡ false = false_from_ne_true (is_named x.name c) (λ is. d.0 (rw (← (bytes_eq-Decides c.name x.name).0 is) at (mem_name cs x m))) in
     cond-false (is_named x.name c) c.rules (rules_of cs x.name) apart ∙ own_rules cs x d.1 m
 
 module _ (goes : Entry → Bool) where
@@ -226,11 +216,11 @@ module _ (goes : Entry → Bool) where
   all (c ∷ cs) x = all cs (one c x)
 
   after_all : (cs : List Chain) (t : Table) → after (deletions goes cs) t ≡ with_chains t (map (all cs) t.chains)
-  after_all [] t = ap (with_chains t) (sym (map_own (all []) t.chains (λ x. refl)))
+  after_all [] t = ap (with_chains t) (sym (map_fixed (all []) t.chains (λ k d lt. refl)))
   after_all (c ∷ cs) t =
       let ns : List ℕ = going (goes_of goes c.name) 0 c.rules in
       after_append (deletions_in goes c) (deletions goes cs) t ∙ ap (after (deletions goes cs)) (deleted c.name ns t) ∙ after_all cs (changed (removed ns) c.name t)
-      ∙ ap (with_chains t) (map_map (one c) (all cs) t.chains)
+      ∙ ap (with_chains t) (map-map (all cs) (one c) t.chains)
 
   one_own : (c : Chain) → one c c ≡ chain_without goes c
   one_own c =
@@ -266,11 +256,9 @@ module _ (goes : Entry → Bool) where
       let ns : List ℕ = going (goes_of goes c.name) 0 c.rules in
       let own = has c (inl refl) in
       let e : after (deletions_in goes c) t ≡ changed (removed ns) c.name t = deleted c.name ns t in
-      let Q : Table → Type 0 = λ u. steps (deletions goes cs) u ≡ Ok (after (deletions goes cs) u) in
-      let N : List ℕ → Type 0 = λ n. Mem n (names_of cs) in
       deleted_steps c.name ns (deletions goes cs) t own.0 (subst (AreRules ns) (sym own.1) (going_are (goes_of goes c.name) 0 [] c.rules refl))
-      ∙ subst Q (sym e) (all_steps cs (changed (removed ns) c.name t) d.1
-      (λ x m. (has_changed (removed ns) c.name x.name t ∙ (has x (inr m)).0, rules_other (removed ns) c.name x.name t.chains (λ same. d.0 (subst N same (mem_name cs x m))) ∙ (has x (inr m)).1)))
+      ∙ (rw (← e) at (all_steps cs (changed (removed ns) c.name t) d.1
+      (λ x m. (has_changed (removed ns) c.name x.name t ∙ (has x (inr m)).0, rules_other (removed ns) c.name x.name t.chains (λ same. d.0 (rw same at (mem_name cs x m))) ∙ (has x (inr m)).1))))
       ∙ ap Ok (sym (after_append (deletions_in goes c) (deletions goes cs) t))
 
 deletions_after : (t : Table) (goes : Entry → Bool) → IsSound t → after (deletions goes t.chains) t ≡ without goes t
@@ -321,8 +309,7 @@ chains_stay a goes (chain ∷ chains) (own ∷ needs) =
 -- so dead rules can go under an assignment
 pub dead_can_go_under : DeadRulesCanGoUnder
 dead_can_go_under needs a t goes dead p can short =
-    let P : List Chain → Type 0 = λ chains. IsAlike (resolved needs a t) (record { policies = t.policies; chains = chains }) p in
-    subst P (sym (chains_stay a goes t.chains needs)) (dead_can_go (resolved needs a t) goes dead p can short)
+    rw (← chains_stay a goes t.chains needs) at (dead_can_go (resolved needs a t) goes dead p can short)
 
 -- ---- conditions by other numbers
 
@@ -354,5 +341,4 @@ module _ (a : Assignment) (number : ℕ → ℕ) where
 pub dead_can_go_renumbered : DeadRulesCanGoRenumbered
 dead_can_go_renumbered needs after number a t goes dead same p can short =
     let left : List Chain = map (chain_without goes) t.chains in
-    let P : List Chain → Type 0 = λ chains. IsAlike (resolved needs a t) (record { policies = t.policies; chains = chains }) p in
-    subst P (ap (λ (ns : List (List (List Need))). resolved_chains a ns left) (sym same) ∙ sym (chains_same a number after left)) (dead_can_go_under needs a t goes dead p can short)
+    rw (ap (λ (ns : List (List (List Need))). resolved_chains a ns left) (sym same) ∙ sym (chains_same a number after left)) at (dead_can_go_under needs a t goes dead p can short)

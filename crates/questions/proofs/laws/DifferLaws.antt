@@ -1,6 +1,5 @@
 -- Where alone a comparison may be unclear: packets that can be at the hook, and the verdicts that they get.
-use Rattle.std.proofs.Common.{◌≡◌, ◌≢◌, ◌⊎◌, inl, inr, ℕ, zero, suc, ◌<◌, false, List, [], ◌∷◌, length, get_or, refl, sym, ◌∙◌, ap, arith, subst, All}
-use Rattle.std.specs.Prelude.{Any}
+use Rattle.std.proofs.Common.{◌≡◌, ◌≢◌, ◌⊎◌, inl, inr, ℕ, zero, suc, ◌<◌, false, List, [], ◌∷◌, length, get_or, refl, sym, ◌∙◌, ap, arith, subst, All, Any}
 use Rattle.std.proofs.lemmas.List.Elements.{All-contains}
 use Rattle.fields.specs.declared.numbers.field.Field.TheVariants as field
 use Rattle.fields.specs.declared.packet.hook.Hook.{Hook}
@@ -60,8 +59,7 @@ module _ (hook : Hook) (box there : List SpanSet) (met : IsMet (given_at hook bo
   pub some_there : (boxes : List (List SpanSet)) → AreByTransport there boxes → Any HasNumbers boxes → HasPackets hook box
   some_there boxes are (k, part, lt, is, some) =
       let transport : Transport = get_or all_transports k Tcp in
-      let P : List SpanSet → Type 0 = λ b. IsWithTransport transport there b in
-      part_one transport part (subst P is (are.each k Tcp part (omega (arith, lt, are.long)))) some
+      part_one transport part (rw is at (are.each k Tcp part (omega (arith, lt, are.long)))) some
 
   pub none_there : (boxes : List (List SpanSet)) → AreByTransport there boxes → All (λ (part : List SpanSet). (numbers : List ℕ) → Has part numbers → ⊥) boxes → HasPackets hook box → ⊥
   none_there boxes are none (p, can, at, inside) =
@@ -153,7 +151,8 @@ IsTold t hook budget leaf = CantBeFollowed t hook budget leaf ⊎ GivesWritten t
 pub told : (t : Whole) (hook : Hook) (budget : ℕ) (leaf : Leaf) → MayDifferIn t hook budget leaf → IsTold t hook budget leaf
 told t hook budget leaf may = elim may [ inl cant ↦ inl cant | inr both ↦ inr both.1 ]
 
-some_or_all : {X : Type 0} (P Q : X → Type 0) (xs : List X) → All (λ x. P x ⊎ Q x) xs → Any P xs ⊎ All Q xs
+-- for one item the first holds, or for all the second does
+pub some_or_all : {X : Type 0} (P Q : X → Type 0) (xs : List X) → All (λ x. P x ⊎ Q x) xs → Any P xs ⊎ All Q xs
 some_or_all P Q [] all = inr (λ k d lt. absurd (omega (arith, lt)))
 some_or_all {X} P Q (x ∷ xs) all =
     elim (all 0 x (omega arith)) [

@@ -1,13 +1,10 @@
 -- Tables that are equal, place by place.
-use Rattle.std.proofs.Common.{◌≡◌, inl, inr, ℕ, ◌+◌, ◌-◌, ◌<◌, ◌≤◌, ◌&&◌, Bool, List, [], ◌∷◌, get_or, length, refl, sym, ◌∙◌, ap, arith, rules, subst, Option, Vec, Global}
-use Rattle.std.specs.Prelude.{◌↔◌, IsTrue, map, slice_get, unwrap_or}
+use Rattle.std.proofs.Common.{◌≡◌, ℕ, ◌<◌, ◌≤◌, ◌&&◌, Bool, List, [], ◌∷◌, get_or, length, refl, sym, ◌∙◌, ap, arith, rules, Option, Vec, Global, ◌↔◌, IsTrue, map, slice_get, unwrap_or}
 use Rattle.std.specs.Cmp.Lexicographic.{pointwise, pointwise_decides}
-use Rattle.std.proofs.lemmas.Bool.{cases_lt}
-use Rattle.std.proofs.lemmas.List.{get_or_default, same_lists}
+use Rattle.std.proofs.lemmas.List.{same_lists}
 use Rattle.std.proofs.lemmas.Option.{unwrap_or-slice_get}
 use Rattle.std.proofs.lemmas.Slice.Eq.{slice_eq-Decides}
-use Rattle.rules.specs.rule.Rules.{Rule}
-use Rattle.table.specs.chains.Table.{Chain, Table, chain_at, empty_chain}
+use Rattle.table.specs.chains.Table.{Chain, Table}
 use Rattle.table.specs.declared.policy.Policy.{Policy}
 use Rattle.questions.specs.contracts.foreign.need.NeedPartialEq.TheImpl as of_need
 use Rattle.questions.specs.declared.foreign.need.Need.{Need}
@@ -53,45 +50,11 @@ same_needs xs ys r is =
 abbrev pub GiveSame : List Policy → List Policy → ℕ → Type 0
 GiveSame xs ys n = (k : ℕ) → k < n → slice_get xs k ≡ slice_get ys k
 
-pub give_next : (xs ys : List Policy) (n : ℕ) → slice_get xs n ≡ slice_get ys n → GiveSame xs ys n → GiveSame xs ys (n + 1)
-give_next xs ys n here below k less =
-    elim (cases_lt k n) [
-      | inl before ↦ below k before
-      | inr past ↦ (
-          let same : n ≡ k = omega (arith, less, past) in
-          let P : ℕ → Type 0 = λ j. slice_get xs j ≡ slice_get ys j in
-          subst P same here)
-    ]
-
 pub give_all : (xs ys : List Policy) (n : ℕ) → length xs ≡ 3 → length ys ≡ 3 → 3 ≤ n → GiveSame xs ys n → xs ≡ ys
 give_all xs ys n three too le below =
     same_lists xs ys (three ∙ sym too) (λ k d lt.
     (let at : slice_get xs k ≡ slice_get ys k = below k (omega (arith, lt, three, le)) in
     sym (unwrap_or-slice_get xs k d) ∙ ap (λ (o : Option Policy). unwrap_or o d) at ∙ unwrap_or-slice_get ys k d))
-
--- ---- rules
-
--- the rules that were asked for are those at a place
-pub rules_at : (xs ys : List Rule) (k : ℕ) (x y : Rule) → k < length xs → length ys ≡ length xs → x ≡ get_or xs (k + 1 - 1) x → y ≡ get_or ys (k + 1 - 1) y → x ≡ y → (d : Rule) → get_or xs k d ≡ get_or ys k d
-rules_at xs ys k x y lt long ix iy same d =
-    let at : k ≡ k + 1 - 1 = omega arith in
-    get_or_default xs k d x lt ∙ ap (λ j. get_or xs j x) at ∙ sym ix ∙ same ∙ iy ∙ ap (λ j. get_or ys j y) (sym at) ∙ get_or_default ys k y d (omega (arith, lt, long))
-
-pub at_rules : (xs ys : List Rule) (k : ℕ) (x y : Rule) → k < length xs → x ≡ get_or xs (k + 1 - 1) x → y ≡ get_or ys (k + 1 - 1) y → xs ≡ ys → x ≡ y
-at_rules xs ys k x y lt ix iy e =
-    ix ∙ get_or_default xs (k + 1 - 1) x y (omega (arith, lt)) ∙ ap (λ (l : List Rule). get_or l (k + 1 - 1) y) e ∙ sym iy
-
--- ---- chains
-
-pub chain_same : (a b : Chain) → a.name ≡ b.name → a.rules ≡ b.rules → a ≡ b
-chain_same a b name rules =
-    let named : List ℕ → Chain = λ n. record { name = n; rules = a.rules } in
-    let ruled : List Rule → Chain = λ rs. record { name = b.name; rules = rs } in
-    ap named name ∙ ap ruled rules
-
-pub chains_at : (old new : Table) (k : ℕ) → k < length old.chains → length new.chains ≡ length old.chains → chain_at old k ≡ chain_at new k → (d : Chain) → get_or old.chains k d ≡ get_or new.chains k d
-chains_at old new k lt long same d =
-    get_or_default old.chains k d (empty_chain []) lt ∙ same ∙ get_or_default new.chains k (empty_chain []) d (omega (arith, lt, long))
 
 -- ---- tables
 

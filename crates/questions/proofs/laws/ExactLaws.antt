@@ -1,6 +1,5 @@
 -- Leaves that have only packets which can be at their hook.
-use Rattle.std.proofs.Common.{◌≡◌, ℕ, ◌+◌, ◌-◌, ◌<◌, ◌≤◌, Bool, true, false, cond, List, [], ◌∷◌, ◌++◌, length, get_or, refl, sym, ◌∙◌, ap, arith, subst, Option, None, All}
-use Rattle.std.specs.Prelude.{IfSome, slice_get}
+use Rattle.std.proofs.Common.{◌≡◌, ℕ, ◌+◌, ◌-◌, ◌<◌, ◌≤◌, Bool, true, false, cond, List, [], ◌∷◌, ◌++◌, length, get_or, refl, sym, ◌∙◌, ap, arith, subst, Option, None, All, IfSome, slice_get}
 use Rattle.std.proofs.lemmas.List.{get_or_default}
 use Rattle.std.proofs.lemmas.List.Elements.{All-contains}
 use Rattle.std.proofs.lemmas.List.Quantifiers.{Any-push}
@@ -16,7 +15,6 @@ use Rattle.questions.specs.Ends.{step_of}
 use Rattle.questions.specs.Foreign.{Agrees, Assignment, resolved}
 use Rattle.questions.specs.Leaves.{AreExactOn}
 use Rattle.questions.specs.Scopes.{AreExactUnder, AreLeavesUnder, IsOf, IsSurely, Known, entries_by, is_met, scope_of, unasked, walked_by}
-use Rattle.questions.specs.asked.Unknown.{CantBeWalked}
 use Rattle.questions.specs.boxes.Boxes.{Has, HasOwnInterfaces, IsAtHook, IsBoth, IsIn}
 use Rattle.questions.specs.declared.asked.reach.Given.{Given}
 use Rattle.questions.specs.declared.foreign.answers.Answer.{Answer}
@@ -26,7 +24,6 @@ use Rattle.questions.specs.declared.walking.task.Leaf.{Leaf}
 use Rattle.questions.specs.declared.boxes.transport.Transport.{Transport}
 use Rattle.questions.specs.declared.boxes.transport.Transport.TheVariants.{Tcp}
 use Rattle.questions.specs.steps.Exact.{AddsExact, AreExact, AreExactWalks, AreExactWalksUnder, IsCovered, IsExactUnder, IsInAny, IsMet, IsPartIn, IsShare, IsShown}
-use Rattle.questions.specs.steps.Taken.{IsUnfinishedUnder}
 use Rattle.questions.specs.steps.Transports.{HasTransport, IsWithTransport, all_transports}
 use Rattle.questions.proofs.laws.BoxesLaws.{Pair, pair_more}
 use Rattle.questions.proofs.laws.ReachLaws.{any_left}
@@ -111,8 +108,7 @@ module _ (scope : Scope) (leaf : Leaf) (transport : Transport) (own : List SpanS
 
   pub part_has : (known : Known) (part : Leaf) → IsShare leaf own part → (p : Packet) → IsAtHook p → HasTransport transport p → IsOf known p scope → IsOf known p (scope_of leaf) → IsOf known p (scope_of part)
   part_has known part share p can h of there =
-      let A : List Answer → Type 0 = λ answers. Agrees known.holds answers in
-      record { inside = share.both.all p.values can.packet.within there.inside (shared p can h of.inside); agrees = subst A (sym share.answers) there.agrees }
+      record { inside = share.both.all p.values can.packet.within there.inside (shared p can h of.inside); agrees = rw (← share.answers) at there.agrees }
 
   -- where it has none there are none
   pub part_none : (known : Known) → IsPartIn leaf own None → (p : Packet) → IsAtHook p → HasTransport transport p → IsOf known p scope → IsOf known p (scope_of leaf) → ⊥
@@ -195,9 +191,3 @@ exact_walks_plain t needs none hook box exact all =
           (let (k, leaf, lt, is, of) = (all any).all p can there (record { inside = inside; agrees = gives_none any }) in
           (k, leaf, lt, is, of.inside));
     }
-
-pub cant_be_walked : (t : Table) (needs : List (List (List Need))) → needs ≡ [] → (hook : Hook) (box : List SpanSet) (budget : ℕ) → IsUnfinishedUnder (record { table = t; needs = needs }) hook (unasked box) budget
-    → CantBeWalked t (record { hook = hook; area = box }) budget
-cant_be_walked t needs none hook box budget long =
-    let P : List (List (List Need)) → Type 0 = λ ns. IsUnfinishedUnder (record { table = t; needs = ns }) hook (unasked box) budget in
-    (box, record { all = λ numbers point own other. own; first = λ numbers point h. h; second = λ numbers point h. h }, subst P none long)

@@ -1,12 +1,11 @@
 -- The table that is left once it is known which conditions hold is sound.
-use Rattle.std.proofs.Common.{◌≡◌, inl, inr, ℕ, zero, suc, ◌<◌, Bool, true, false, ◌||◌, ◌&&◌, List, [], length, get_or, refl, sym, ◌∙◌, ap, arith, subst, All, Contains}
+use Rattle.std.proofs.Common.{◌≡◌, inl, inr, ℕ, zero, suc, ◌<◌, Bool, true, false, ◌||◌, ◌&&◌, List, [], length, get_or, refl, sym, ◌∙◌, ap, arith, subst, All}
 use Rattle.std.specs.Str.{bytes_eq}
 use Rattle.fields.specs.declared.packet.hook.Hook.TheVariants.{Input, Output}
 use Rattle.fields.specs.Hook.{name as hook_name}
 use Rattle.rules.specs.rule.Rules.{Rule}
 use Rattle.table.specs.chains.Sound.{AreListed, IsSound, IsSoundChain, MayStand, Names, Path}
 use Rattle.table.specs.chains.Table.{Chain, Table, chain_named_by, rules_of}
-use Rattle.table.specs.edits.Edits.{asks_absent_interface}
 use Rattle.questions.specs.Foreign.{Assignment, never, resolved, resolved_rules}
 use Rattle.questions.specs.declared.foreign.need.Need.{Need}
 use Rattle.questions.proofs.laws.ResolvedLaws.{never_names_nothing, never_reads_back, chain_named, chain_resolved, has_same, is_or_never, length_same, names_same, rule_resolved, rule_there, rules_by_name, rules_length, users_same}
@@ -23,8 +22,7 @@ module _ (needs : List (List (List Need))) (a : Assignment) (t : Table) where
   names_kept : (x y : List ℕ) → Names (resolved needs a t).chains x y → Names t.chains x y
   names_kept x y (rule, there, named) =
       let (own, is) = rules_by_name needs a t.chains x in
-      let C : List Rule → Type 0 = λ rs. Contains rs rule in
-      elim (rule_there own a (rules_of t.chains x) rule (subst C is there)) [
+      elim (rule_there own a (rules_of t.chains x) rule (rw is at there)) [
         | inl gone ↦ absurd (never_names_nothing y (ap chain_named_by (sym gone) ∙ named))
         | inr kept ↦ (rule, kept, named)
       ]
@@ -47,14 +45,7 @@ module _ (needs : List (List (List Need))) (a : Assignment) (t : Table) (sound :
   }
 
   never_stands : (chain : List ℕ) → MayStand left chain never
-  never_stands chain = record {
-    readable = never_reads_back;
-    interface = asks_nothing chain;
-    target = λ name is. absurd (never_names_nothing name is);
-  }
-    where
-      asks_nothing : (chain : List ℕ) → asks_absent_interface chain never ≡ false
-      asks_nothing chain = neither (bytes_eq chain (hook_name Input)) (bytes_eq chain (hook_name Output))
+  never_stands chain = record { readable = never_reads_back; interface = neither (bytes_eq chain (hook_name Input)) (bytes_eq chain (hook_name Output)); target = λ name is. absurd (never_names_nothing name is) }
 
   chain_sound : (c d : Chain) (own : List (List Need)) → c.name ≡ d.name → c.rules ≡ resolved_rules a own d.rules → IsSoundChain t d → IsSoundChain left c
   chain_sound c d own named is h = record {

@@ -1,12 +1,12 @@
 -- Jumps that make no difference to the end of a packet's walk.
-use Rattle.std.proofs.Common.{◌≡◌, ◌⊎◌, inl, inr, ℕ, zero, suc, ◌+◌, ◌<◌, ◌≤◌, Bool, true, false, List, [], ◌∷◌, ◌++◌, length, get_or, refl, sym, ◌∙◌, ap, arith, subst, Option, Some, None, All, Contains, IsTrue, take, map, not, Vec, Global}
-use Rattle.std.specs.Prelude.{◌↔◌, position, slice_get, Any}
+use Rattle.std.proofs.Common.{◌≡◌, ◌⊎◌, inl, inr, ℕ, zero, suc, ◌+◌, ◌<◌, ◌≤◌, Bool, true, false, List, [], ◌∷◌, ◌++◌, length, get_or, refl, sym, ◌∙◌, ap, arith, subst, Option, Some, None, All, Contains, IsTrue, take, map, not, Vec, Global, ◌↔◌, position, slice_get, Any, true≢false, length-append}
+use Rattle.questions.proofs.laws.WithoutLaws.{ended, under_over}
 use Rattle.std.specs.Option.{option_map}
-use Rattle.std.proofs.lemmas.Bool.{cases_Bool, cases_lt, true≢false}
-use Rattle.std.proofs.lemmas.List.{get_or_append_left, get_or_past, get_or_push, length-append, length-map, map-append}
+use Rattle.std.proofs.lemmas.Bool.{cases_Bool, cases_lt}
+use Rattle.std.proofs.lemmas.List.{get_or_append_left, get_or_past, get_or_push, length-map, map-append}
 use Rattle.std.proofs.lemmas.List.Elements.{All-nil, All-push, Contains-get_or}
 use Rattle.std.proofs.lemmas.List.Quantifiers.{Any-push}
-use Rattle.std.proofs.lemmas.Option.{slice_get-get_or, slice_get_past, slice_get_within}
+use Rattle.std.proofs.lemmas.Option.{slice_get-get_or, slice_get_past, slice_get_within, same_Some}
 use Rattle.fields.specs.Hook.{name as hook_name}
 use Rattle.fields.specs.Packet.{PacketView as Packet}
 use Rattle.rules.specs.rule.Actions.{target_of}
@@ -15,11 +15,11 @@ use Rattle.rules.specs.rule.Rules.{Rule, empty_rule}
 use Rattle.rules.specs.declared.rule.target.Target.{Target}
 use Rattle.rules.specs.declared.rule.target.Target.TheVariants as target
 use Rattle.table.specs.chains.Sound.{IsSound}
-use Rattle.table.specs.chains.Table.{Chain, Table, chain_at, empty_chain, is_named, rules_of}
+use Rattle.table.specs.chains.Table.{Table, chain_at, empty_chain, is_named, rules_of}
 use Rattle.table.specs.declared.walk.trail.Step.{Step}
 use Rattle.table.specs.declared.verdict.Verdict.{Verdict}
 use Rattle.table.specs.declared.verdict.Verdict.TheVariants.{TooLong}
-use Rattle.table.specs.walk.Cases.{Stage, Under, Over, StepsTo, GoesTo, next_rule, on_by, with_next}
+use Rattle.table.specs.walk.Cases.{Stage, Under, Over, GoesTo, next_rule, on_by, with_next}
 use Rattle.table.specs.walk.Walk.{Rest, Entry, Walked, Next, Ends, GoesOn, after_match, end_verdict, too_long, walk, whole}
 use Rattle.table.proofs.laws.chains.KeepLaws.{rules_by_name}
 use Rattle.table.proofs.laws.chains.PlaceLaws.{IsPlaced, any_none, placed_at}
@@ -38,8 +38,7 @@ use Rattle.questions.specs.steps.Ending.{AreIdleMarks, AreShown, AreSparedIn, Is
 use Rattle.questions.specs.declared.foreign.need.Need.{Need}
 use Rattle.questions.specs.steps.Waiting.{Reaches}
 use Rattle.questions.proofs.laws.ForeignLaws.{left_sound}
-use Rattle.questions.proofs.laws.ResolvedLaws.{chain_named, count_left, entry_left, is_or_never, length_same, never_matches, resolved_not, rule_left, rule_resolved, rules_length, there_left}
-use Rattle.questions.proofs.laws.ResolvedLaws.{rules_by_name as rules_left}
+use Rattle.questions.proofs.laws.ResolvedLaws.{chain_named, count_left, entry_left, length_same, never_matches, resolved_not, rule_left, rule_resolved, rules_length, there_left, resolved_matches, rules_by_name as rules_left}
 use Rattle.questions.proofs.laws.ReachLaws.{any_left}
 use Rattle.questions.proofs.laws.TrailLaws.{decider_under, last_pushed, none_some, rules_there}
 use Rattle.questions.proofs.laws.WaitLaws.{no_rules, reaches_more}
@@ -111,14 +110,6 @@ back_by (Some (target.Reject kind)) own stack back = absurd back
 back_by (Some (target.Jump name)) own stack back = absurd back
 back_by (Some (target.Goto name)) own stack back = absurd back
 
--- a rule that matches is the one that was there
-pub matched_is : (a : Assignment) (needs : List Need) (rule : Rule) (values : List ℕ) → matches values (resolved_rule a needs rule) ≡ true → resolved_rule a needs rule ≡ rule
-matched_is a needs rule values m =
-    elim (is_or_never a needs rule) [
-      | inl same ↦ same
-      | inr gone ↦ absurd (true≢false (sym m ∙ ap (matches values) gone ∙ never_matches values))
-    ]
-
 -- ---- ends
 
 -- two walks end alike
@@ -134,17 +125,6 @@ same_end e one other v = record { verdict = refl; by_policy = refl; decider = la
 alike_with : (one other last w : Walked) → one ≡ last → w ≡ other → EndsAlike one other → EndsAlike last w
 alike_with one other last w is at alike = subst (λ (x : Walked). EndsAlike x w) is (subst (λ (x : Walked). EndsAlike one x) (sym at) alike)
 
--- a finished walk takes no further step
-over_is : (n : ℕ) (cs : List Chain) (policy : Verdict) (values : List ℕ) (one last : Walked) → GoesTo n cs policy values (Over one) (Over last) → one ≡ last
-over_is zero cs policy values one last g = over_same g
-  where
-    over_same : {x y : Walked} → ◌≡◌ {A = Stage} (Over x) (Over y) → x ≡ y
-    over_same e = cc
-over_is (suc n) cs policy values one last g = absurd g.1
-
-not_over : (rests : List Rest) (trail : List Entry) (last : Walked) → ◌≡◌ {A = Stage} (Under rests trail) (Over last) → ⊥
-not_over rests trail last e = cc
-
 -- ---- the walk of a packet, where idle jumps ask nothing
 
 module _ (t : Table) (sound : IsSound t) (a : Assignment) (p : Packet) (needs : List (List (List Need))) where
@@ -158,17 +138,13 @@ module _ (t : Table) (sound : IsSound t) (a : Assignment) (p : Packet) (needs : 
   own = walk mine p
 
   module _ (short : own.verdict ≡ TooLong → ⊥) where
-    -- a walk that isn't too long doesn't run full
-    no_run : (stage : Stage) → Reaches mine p stage → StepsTo mine.chains policy p.values stage (Over too_long) → ⊥
-    no_run stage reaches s = short (ap (λ (w : Walked). w.verdict) (walk_is mine p too_long (reaches_more mine p stage (Over too_long) reaches s)))
-
     -- so each match has room
     goes_on : (rest : Rest) (waiting : List Rest) (trail : List Entry) (rule : Rule) → next_rule mine.chains rest ≡ Some rule → matches p.values rule ≡ true → Reaches mine p (Under (rest ∷ waiting) trail)
         → Reaches mine p (on_by (after_match (target_of rule) (record { chain = rest.chain; passed = rest.passed + 1 }) waiting) (with_next trail rest))
     goes_on rest waiting trail rule is m reaches =
         elim (cases_lt (length trail) 65536) [
           | inl room ↦ reaches_more mine p (Under (rest ∷ waiting) trail) _ reaches (inr (inr (inl (rule, is, m, room, refl))))
-          | inr full ↦ absurd (no_run (Under (rest ∷ waiting) trail) reaches (inr (inl (rule, is, m, full, refl))))
+          | inr full ↦ absurd (short (ap (λ (w : Walked). w.verdict) (walk_is mine p too_long (reaches_more mine p (Under (rest ∷ waiting) trail) (Over too_long) reaches (inr (inl (rule, is, m, full, refl)))))))
         ]
 
     -- the rules of a chain by its name
@@ -204,7 +180,7 @@ module _ (t : Table) (sound : IsSound t) (a : Assignment) (p : Packet) (needs : 
             | inr un ↦ comes name idle n (k + 1) (omega (arith, le)) waiting trail
                 (reaches_more mine p (Under (here ∷ waiting) trail) (Under (later ∷ waiting) trail) reaches (inl (resolved_rule a needed rule, next_in name k within, un, refl)))
             | inl m ↦ (
-                let is : resolved_rule a needed rule ≡ rule = matched_is a needed rule p.values m in
+                let is : resolved_rule a needed rule ≡ rule = resolved_matches a needed rule p.values m in
                 let back : ComesBack (target_of rule) = idle k empty_rule within (ap (matches p.values) (sym is) ∙ m) in
                 let more : List Entry = with_next trail here in
                 let on : Reaches mine p (on_by (after_match (target_of rule) later waiting) more) =
@@ -227,14 +203,11 @@ module _ (t : Table) (sound : IsSound t) (a : Assignment) (p : Packet) (needs : 
           let was : Rule = get_or (chain_at t at.place).rules rest.passed empty_rule in
           let one : List Need = needs_at needs at.place rest.passed in
           let two : List Need = needs_at others at.place rest.passed in
-          let by : rule ≡ resolved_rule a two was = some_is (sym is ∙ next_by_needs t sound a others rest at) in
+          let by : rule ≡ resolved_rule a two was = same_Some rule (resolved_rule a two was) (sym is ∙ next_by_needs t sound a others rest at) in
           elim (spared at.place rest.passed at.there at.passed) [
             | inl same ↦ next_by_needs t sound a needs rest at ∙ ap (λ (ns : List Need). Some (resolved_rule a ns was)) (sym same.0) ∙ ap Some (sym by)
             | inr idle ↦ absurd (true≢false (sym m ∙ ap (matches p.values) (by ∙ resolved_not a two was (idle.1 a)) ∙ never_matches p.values))
           ]
-        where
-          some_is : {x y : Rule} → ◌≡◌ {A = Option Rule} (Some x) (Some y) → x ≡ y
-          some_is e = cc
 
       -- past a rule that doesn't match in the other table, the walk goes on behind it in this one, too
       goes_behind : (rest : Rest) (waiting : List Rest) (trail : List Entry) (rule : Rule) → next_rule other.chains rest ≡ Some rule → matches p.values rule ≡ false → Reaches mine p (Under (rest ∷ waiting) trail)
@@ -249,19 +222,16 @@ module _ (t : Table) (sound : IsSound t) (a : Assignment) (p : Packet) (needs : 
           elim (cases_Bool (matches p.values here)) [
             | inr off ↦ (trail, reaches_more mine p (Under (rest ∷ waiting) trail) (Under (later ∷ waiting) trail) reaches (inl (here, next, off, refl)))
             | inl on ↦ elim (spared at.place rest.passed at.there at.passed) [
-              | inl same ↦ absurd (true≢false (sym on ∙ ap (matches p.values) (some_is (sym (ap (λ (ns : List Need). Some (resolved_rule a ns was)) same.0) ∙ sym (next_by_needs t sound a others rest at) ∙ is)) ∙ un))
+              | inl same ↦ absurd (true≢false (sym on ∙ ap (matches p.values) (same_Some here rule (sym (ap (λ (ns : List Need). Some (resolved_rule a ns was)) same.0) ∙ sym (next_by_needs t sound a others rest at) ∙ is)) ∙ un))
               | inr idle ↦ (
                   let jump = idle.0 in
-                  let to : target_of here ≡ Some (target.Jump jump.0) = ap target_of (matched_is a one was p.values on) ∙ jump.1 in
+                  let to : target_of here ≡ Some (target.Jump jump.0) = ap target_of (resolved_matches a one was p.values on) ∙ jump.1 in
                   let more : List Entry = with_next trail rest in
                   let entered : Reaches mine p (Under (whole jump.0 ∷ later ∷ waiting) more) =
                   subst (λ (o : Option Target). Reaches mine p (on_by (after_match o later waiting) more)) to (goes_on rest waiting trail here next on reaches) in
                   comes jump.0 jump.2 (length (rules_of t.chains jump.0)) 0 (omega arith) (later ∷ waiting) more entered)
             ]
           ]
-        where
-          some_is : {x y : Rule} → ◌≡◌ {A = Option Rule} (Some x) (Some y) → x ≡ y
-          some_is e = cc
 
       -- a chain that is at its end in the other table is at its end
       ends_too : (rest : Rest) → next_rule other.chains rest ≡ None → next_rule mine.chains rest ≡ None
@@ -278,15 +248,15 @@ module _ (t : Table) (sound : IsSound t) (a : Assignment) (p : Packet) (needs : 
       by_next rest trail more last n (Ends v) goes on later =
           let here : Walked = record { trail = with_next trail rest; verdict = v; by_policy = false } in
           let there : Walked = record { trail = with_next more rest; verdict = v; by_policy = false } in
-          alike_with here there last own (over_is n other.chains policy p.values here last goes) (walk_is mine p there on) (same_end (record { chain = rest.chain; number = rest.passed + 1 }) trail more v)
+          alike_with here there last own (ended other.chains policy p.values n here last goes) (walk_is mine p there on) (same_end (record { chain = rest.chain; number = rest.passed + 1 }) trail more v)
 
       -- the walks end alike
       alike : (n : ℕ) (rests : List Rest) (trail more : List Entry) (last : Walked) → GoesTo n other.chains policy p.values (Under rests trail) (Over last) → (last.verdict ≡ TooLong → ⊥) → Reaches mine p (Under rests more) → EndsAlike last own
-      alike zero rests trail more last goes ends reaches = absurd (not_over rests trail last goes)
+      alike zero rests trail more last goes ends reaches = absurd (under_over other.chains policy p.values rests trail last goes)
       alike (suc n) [] trail more last (next, step, goes) ends reaches =
           let here : Walked = record { trail = trail; verdict = policy; by_policy = true } in
           let there : Walked = record { trail = more; verdict = policy; by_policy = true } in
-          let is : here ≡ last = over_is n other.chains policy p.values here last (subst (λ (s : Stage). GoesTo n other.chains policy p.values s (Over last)) step goes) in
+          let is : here ≡ last = ended other.chains policy p.values n here last (subst (λ (s : Stage). GoesTo n other.chains policy p.values s (Over last)) step goes) in
           let at : own ≡ there = walk_is mine p there (reaches_more mine p (Under [] more) (Over there) reaches refl) in
           alike_with here there last own is at (record { verdict = refl; by_policy = refl; decider = refl })
       alike (suc n) (rest ∷ waiting) trail more last (next, inl (rule, is, un, to), goes) ends reaches =
@@ -294,7 +264,7 @@ module _ (t : Table) (sound : IsSound t) (a : Assignment) (p : Packet) (needs : 
           let (further, on) = goes_behind rest waiting more rule is un reaches in
           alike n (later ∷ waiting) trail further last (subst (λ (s : Stage). GoesTo n other.chains policy p.values s (Over last)) to goes) ends on
       alike (suc n) (rest ∷ waiting) trail more last (next, inr (inl (rule, is, m, full, to)), goes) ends reaches =
-          let long : too_long ≡ last = over_is n other.chains policy p.values too_long last (subst (λ (s : Stage). GoesTo n other.chains policy p.values s (Over last)) to goes) in
+          let long : too_long ≡ last = ended other.chains policy p.values n too_long last (subst (λ (s : Stage). GoesTo n other.chains policy p.values s (Over last)) to goes) in
           absurd (ends (ap (λ (w : Walked). w.verdict) (sym long)))
       alike (suc n) (rest ∷ waiting) trail more last (next, inr (inr (inr (none, to))), goes) ends reaches =
           alike n waiting trail more last (subst (λ (s : Stage). GoesTo n other.chains policy p.values s (Over last)) to goes) ends
@@ -414,10 +384,6 @@ pub jump_nowhere : (t : Table) (values : List ℕ) (rule : Rule) (name : List �
 jump_nowhere t values rule name to none =
     (name, to, subst (AreIdle values) (sym (no_rules t.chains name (any_none (is_named name) t.chains none))) (All-nil (λ (r : Rule). IsTrue (matches values r) → ComesBack (target_of r))))
 
--- no other rule is
-pub no_jump : (t : Table) (values : List ℕ) (rule : Rule) → ((name : List ℕ) → target_of rule ≡ Some (target.Jump name) → ⊥) → IsIdleJump t values rule → ⊥
-no_jump t values rule other idle = other idle.0 idle.1
-
 -- what the rules of a chain need, rule by rule
 module _ (t : Table) (values : List ℕ) (needs : List (List (List Need))) where
   abbrev pub IsSparedAt : ℕ → ℕ → List Need → Type 0
@@ -470,8 +436,7 @@ module _ (t : Table) (values : List ℕ) (needs : List (List (List Need))) where
 
 -- what is never met asks for the condition of the first need
 pub asks_first : (needs : List Need) (need : Need) (condition : ℕ) → Contains needs need → AsksFor condition (need ∷ record { condition = need.condition; inverted = not need.inverted } ∷ []) → AsksFor condition needs
-asks_first needs need condition (j, less, here) (k, other, lt, is, at) =
-    (j, need, less, here, by_place k lt is)
+asks_first needs need condition (j, less, here) (k, other, lt, is, at) = (j, need, less, here, by_place k lt is)
   where
     pair : List Need
     pair = need ∷ record { condition = need.condition; inverted = not need.inverted } ∷ []

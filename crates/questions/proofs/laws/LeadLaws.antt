@@ -1,12 +1,11 @@
 -- Where walks come to: to the chains that jumps and gotos lead to, and never to those of hooks.
-use Rattle.std.proofs.Common.{◌≡◌, inl, inr, ℕ, zero, suc, ◌+◌, ◌-◌, ◌<◌, ◌≤◌, Bool, true, false, List, [], ◌∷◌, ◌++◌, length, get_or, refl, sym, ◌∙◌, ap, arith, subst, Option, Some, None, All, Contains}
-use Rattle.std.specs.Prelude.{◌↔◌, option_and_then, slice_get, IsTrue, replicate, take}
+use Rattle.std.proofs.Common.{◌≡◌, inl, inr, ℕ, zero, suc, ◌+◌, ◌-◌, ◌<◌, ◌≤◌, Bool, true, false, List, [], ◌∷◌, ◌++◌, length, get_or, refl, sym, ◌∙◌, ap, arith, subst, Option, Some, None, All, Contains, ◌↔◌, option_and_then, IsTrue, replicate, take, true≢false, get_or-set_same, get_or-set_other, length-set}
 use Rattle.std.specs.List.{position}
 use Rattle.std.proofs.Math.ListN.{set}
-use Rattle.std.proofs.lemmas.Bool.{cases_eq, true≢false, cases_lt}
-use Rattle.std.proofs.lemmas.List.{get_or_default, get_or-set_same, get_or-set_other, length-set, get_or-replicate, get_or_past, length-replicate}
+use Rattle.std.proofs.lemmas.Bool.{cases_eq, cases_lt}
+use Rattle.std.proofs.lemmas.List.{get_or_default, get_or-replicate, get_or_past, length-replicate}
 use Rattle.std.proofs.lemmas.List.Elements.{All-cons, All-contains, All-head, All-nil, All-push, All-tail, Contains-get_or}
-use Rattle.std.proofs.lemmas.Option.{get_or_from_slice_get, slice_get-get_or, slice_get_within}
+use Rattle.std.proofs.lemmas.Option.{get_or_from_slice_get, slice_get-get_or, slice_get_within, same_Some}
 use Rattle.std.proofs.lemmas.Slice.Eq.{bytes_eq-Decides}
 use Rattle.fields.specs.declared.packet.hook.Hook.{Hook}
 use Rattle.fields.specs.Hook.{name as hook_name}
@@ -38,9 +37,6 @@ use Rattle.questions.proofs.laws.WaitLaws.{named_first}
 -- ---- Where walks come to: to the chains that jumps and gotos lead to.
 
 -- ---- walks stay in a set of chains that has the hook's chain and, with a chain, each that its rules name
-
-found_in : {X : Type 0} (xs : List X) (k : ℕ) (x : X) → slice_get xs k ≡ Some x → Contains xs x
-found_in xs k x e = (k, slice_get_within xs k x e, get_or_from_slice_get xs k x x e)
 
 module _ (cs : List Chain) (policy : Verdict) (values : List ℕ) (In : List ℕ → Type 0) (closed : (a b : List ℕ) → In a → Names cs a b → In b) where
   abbrev IsInside : Rest → Type 0
@@ -84,7 +80,7 @@ module _ (cs : List Chain) (policy : Verdict) (values : List ℕ) (In : List ℕ
       let entry : Entry = record { chain = rest.chain; number = rest.passed + 1 } in
       let behind : Rest = record { chain = rest.chain; passed = rest.passed + 1 } in
       subst AreInside (sym p.4) (on_inside _ (trail ++ entry ∷ [])
-      (by_target (target_of p.0) behind waiting (λ name e. closed rest.chain name own (p.0, found_in (rules_of cs rest.chain) rest.passed p.0 p.1, e)) own (All-tail IsInside rest waiting h.0))
+      (by_target (target_of p.0) behind waiting (λ name e. closed rest.chain name own (p.0, (rest.passed, slice_get_within (rules_of cs rest.chain) rest.passed p.0 p.1, get_or_from_slice_get (rules_of cs rest.chain) rest.passed p.0 p.0 p.1), e)) own (All-tail IsInside rest waiting h.0))
       (All-push IsOf trail entry h.1 own))
 
   goes_inside : (n : ℕ) (now last : Stage) → GoesTo n cs policy values now last → AreInside now → AreInside last
@@ -116,8 +112,7 @@ pub marked_name : (t : Table) (marks : List Bool) (name : List ℕ) (place : ℕ
 marked_name t marks name place s e h =
     let placed : IsPlaced t name place = placed_at t name place (sym e) in
     let same : place ≡ h.0 = one_place t place h.0 s h.1 (placed.named (empty_chain []) ∙ sym h.3) in
-    let P : ℕ → Type 0 = λ k. IsMarked marks k in
-    subst P (sym same) h.2
+    rw (← same) at h.2
 
 pub name_marked : (t : Table) (marks : List Bool) (name : List ℕ) (place : ℕ) → Some place ≡ position (is_named name) t.chains → IsMarked marks place → IsMarkedName t.chains marks name
 name_marked t marks name place e h =
@@ -130,29 +125,13 @@ no_name t marks name e h =
 
 -- a rule that names a chain names a marked one where the name is one's
 pub naming : (cs : List Chain) (marks : List Bool) (rule : Rule) (name : List ℕ) (b : Bool) → chain_named_by rule ≡ Some name → IsTrue b ↔ IsMarkedName cs marks name → IsTrue b ↔ NamesMarked cs marks rule
-naming cs marks rule name b e iff = (λ h. (name, e, iff.0 h), λ w. (let P : List ℕ → Type 0 = λ n. IsMarkedName cs marks n in iff.1 (subst P (same_name (sym w.1 ∙ e)) w.2)))
-  where
-    same_name : {x y : List ℕ} → ◌≡◌ {A = Option (List ℕ)} (Some x) (Some y) → x ≡ y
-    same_name e = cc
-
--- and one that names none doesn't
-pub not_naming : (cs : List Chain) (marks : List Bool) (rule : Rule) → chain_named_by rule ≡ None → NamesMarked cs marks rule → ⊥
-not_naming cs marks rule e w = none_some (sym e ∙ w.1)
-
--- a rule counts and names a marked chain
-abbrev pub Goes : Table → Option Rule → List Bool → Rule → Type 0
-Goes t own marks rule = NamesMarked t.chains marks rule × Counts own rule
-
--- rule after rule
-pub at_passed : (rules : List Rule) (k : ℕ) (rule : Rule) → k < length rules → rule ≡ get_or rules (k + 1 - 1) rule → rule ≡ get_or rules k rule
-at_passed rules k rule lt is = is ∙ ap (λ j. get_or rules j rule) (omega arith)
+naming cs marks rule name b e iff = (λ h. (name, e, iff.0 h), λ w. (let P : List ℕ → Type 0 = λ n. IsMarkedName cs marks n in iff.1 (subst P (same_Some w.0 name (sym w.1 ∙ e)) w.2)))
 
 -- a rule of the chain at a place is one of those that its name has
 rule_of_name : (t : Table) (place : ℕ) (rule : Rule) → IsSound t → place < length t.chains → Contains (chain_at t place).rules rule → Contains (rules_of t.chains (name_at t.chains place)) rule
 rule_of_name t place rule s lt there =
     let own : rules_of t.chains (name_at t.chains place) ≡ (chain_at t place).rules = rules_by_name t (chain_at t place) s (Contains-get_or t.chains place (empty_chain []) lt) in
-    let P : List Rule → Type 0 = λ rs. Contains rs rule in
-    subst P (sym own) there
+    rw (← own) at there
 
 -- no rule goes to its own chain
 pub not_gone_to : (t : Table) (at : Pending) (rule : Rule) (name : List ℕ) → IsSound t → at.chain < length t.chains → at.passed < length (chain_at t at.chain).rules
@@ -160,7 +139,7 @@ pub not_gone_to : (t : Table) (at : Pending) (rule : Rule) (name : List ℕ) →
 not_gone_to t at rule name s lt within is to there =
     let rules : List Rule = (chain_at t at.chain).rules in
     let own : List ℕ = name_at t.chains at.chain in
-    let on : Contains rules rule = (at.passed, within, sym (at_passed rules at.passed rule within is)) in
+    let on : Contains rules rule = (at.passed, within, sym (is ∙ ap (λ j. get_or rules j rule) (omega arith))) in
     let same : name ≡ own = sym ((placed_at t name at.chain there).named (empty_chain [])) in
     s.no_loop 0 own (own, (rule, rule_of_name t at.chain rule s lt on, ap chain_in to ∙ ap Some same), refl)
 
@@ -168,17 +147,13 @@ not_gone_to t at rule name s lt within is to there =
 pub spread_by : (t : Table) (own : Option Rule) (marks : List Bool) (place : ℕ) → IsSound t → length marks ≡ length t.chains → place < length t.chains → LeadsOn t own marks place → Spreads t own marks (set marks place true)
 spread_by t own marks place s long lt on = record {
   long = length-set marks place true;
-  kept = λ k h. elim (cases_eq k place) [
-    | inl e ↦ marked_here k e
-    | inr ne ↦ get_or-set_other marks place k true false ne ∙ h
-  ];
+  kept = λ k h. elim (cases_eq k place) [ inl e ↦ marked_here k e | inr ne ↦ get_or-set_other marks place k true false ne ∙ h ];
   each = λ name all k within h. elim (cases_eq k place) [
     | inl e ↦ (
-        let P : ℕ → Type 0 = λ j. (n : ℕ) × PathBy t own n (name_at t.chains j) name in
         let next = on.2.2 in
         let led : (n : ℕ) × PathBy t own n (name_at t.chains next.0) name = all next.0 next.1 next.2 in
         let names : chain_named_by on.0 ≡ Some (name_at t.chains next.0) = on.2.1 ∙ ap Some (sym next.3) in
-        subst P (sym e) (suc led.0, (name_at t.chains next.0, (on.0, rule_of_name t place on.0 s lt on.1, names, on.3), led.1)))
+        rw e (suc led.0, (name_at t.chains next.0, (on.0, rule_of_name t place on.0 s lt on.1, names, on.3), led.1)))
     | inr ne ↦ all k within (sym (get_or-set_other marks place k true false ne) ∙ h)
   ];
 }
@@ -193,9 +168,6 @@ unmarked_less (true ∷ ms) zero lt off = absurd (true≢false off)
 unmarked_less (false ∷ ms) zero lt off = omega arith
 unmarked_less (true ∷ ms) (suc k) lt off = unmarked_less ms k (omega (arith, lt)) off
 unmarked_less (false ∷ ms) (suc k) lt off = let h = unmarked_less ms k (omega (arith, lt)) off in omega (arith, h)
-
-pub spread_same : (t : Table) (own : Option Rule) (marks : List Bool) → Spreads t own marks marks
-spread_same t own marks = record { long = refl; kept = λ k h. h; each = λ name h. h }
 
 pub spread_on : (t : Table) (own : Option Rule) (a b c : List Bool) → Spreads t own a b → Spreads t own b c → Spreads t own a c
 spread_on t own a b c one two = record { long = two.long ∙ one.long; kept = λ k h. two.kept k (one.kept k h); each = λ name h. two.each name (one.each name h) }
@@ -230,9 +202,8 @@ AreClosedBelow t own marks calls count = (k : ℕ) (d : Call) → k < count → 
 pub closed_next : (t : Table) (own : Option Rule) (old new : List Bool) (calls : List Call) (i : ℕ) (call : Call) → new ≡ old → i < length calls → call ≡ get_or calls i call
     → AreClosedBelow t own old calls i → IsClosedBy t own old call → AreClosedBelow t own new calls (i + 1)
 closed_next t own old new calls i call same within is below here =
-    let P : List Bool → Type 0 = λ marks. AreClosedBelow t own marks calls (i + 1) in
     let Q : Call → Type 0 = λ c. IsClosedBy t own old c in
-    subst P (sym same) (items_next Q calls i call within is below here)
+    rw (← same) at (items_next Q calls i call within is below here)
 
 -- all were
 pub closed_all : (t : Table) (own : Option Rule) (marks : List Bool) (calls : List Call) (count : ℕ) → IsSound t → AreCalls t calls → length calls ≤ count
@@ -246,9 +217,7 @@ closed_all t own marks calls count s all most below k lt (rule, there, (name, na
     let call : Call = record { to = j; by = by } in
     let on = listed t calls by j all is (ap (λ (r : Rule). place_named t.chains (target_of r)) here
     ∙ ap (λ (o : Option (List ℕ)). option_and_then (λ n. position (is_named n) t.chains) o) names ∙ own_position t j name s within same) in
-    let P : Call → Type 0 = λ c. IsClosedBy t own marks c in
-    let Q : Rule → Type 0 = λ r. Counts own r in
-    subst P on.2 (below on.0 call (omega (arith, on.1, most))) marked (subst Q (sym here) counts)
+    (rw on.2 at (below on.0 call (omega (arith, on.1, most)))) marked (rw (← here) at counts)
 
 -- where the marks are closed, each chain is marked from which a path leads to one that is marked
 module _ (t : Table) (s : IsSound t) (marks : List Bool) (place : ℕ) (lt : place < length t.chains) (own : IsMarked marks place) (closed : AreClosed t None marks) where
@@ -263,11 +232,9 @@ module _ (t : Table) (s : IsSound t) (marks : List Bool) (place : ℕ) (lt : pla
   is_marked (suc n) k within path =
       let rule : Rule = path.1.0 in
       let next = chain_of n path.0 path.2 in
-      let P : List ℕ → Type 0 = λ name. Path t.chains n name (name_at t.chains place) in
-      let there : IsMarked marks next.0 = is_marked n next.0 next.1 (subst P (sym next.2) path.2) in
+      let there : IsMarked marks next.0 = is_marked n next.0 next.1 (rw (← next.2) at path.2) in
       let rules : rules_of t.chains (name_at t.chains k) ≡ (chain_at t k).rules = rules_by_name t (chain_at t k) s (Contains-get_or t.chains k (empty_chain []) within) in
-      let Q : List Rule → Type 0 = λ rs. Contains rs rule in
-      closed k within (rule, subst Q rules path.1.1, (path.0, path.1.2, (next.0, next.1, there, next.2)), tt)
+      closed k within (rule, rw rules at path.1.1, (path.0, path.1.2, (next.0, next.1, there, next.2)), tt)
 
 -- a path of rules that count is one
 path_of : (t : Table) (own : Option Rule) (n : ℕ) (a b : List ℕ) → PathBy t own n a b → Path t.chains n a b
@@ -295,14 +262,12 @@ first_leads t own marks place none k within h = elim (cases_eq k place) [
 pub hook_leads : (t : Table) (name : List ℕ) (marks : List Bool) (hook : Hook) → IsSound t → AreLeading t name marks → IsMarked marks (hook_index hook) → Leads t.chains (hook_name hook) name
 hook_leads t name marks hook s leading h =
     let named = named_first t.chains hook s.listed.built_in in
-    let P : List ℕ → Type 0 = λ n. Leads t.chains n name in
-    subst P named.0 (leading.each (hook_index hook) named.1 h)
+    rw named.0 at (leading.each (hook_index hook) named.1 h)
 
 pub hook_led : (t : Table) (name : List ℕ) (marks : List Bool) (hook : Hook) → IsSound t → AreLeading t name marks → Leads t.chains (hook_name hook) name → IsMarked marks (hook_index hook)
 hook_led t name marks hook s leading h =
     let named = named_first t.chains hook s.listed.built_in in
-    let P : List ℕ → Type 0 = λ n. Leads t.chains n name in
-    leading.all (hook_index hook) named.1 (subst P (sym named.0) h)
+    leading.all (hook_index hook) named.1 (rw (← named.0) at h)
 
 -- ---- The chains of hooks, to which no jumps and gotos lead.
 
@@ -328,8 +293,7 @@ first_built_in (a ∷ b ∷ c ∷ cs) (suc (suc (suc k))) e lt = absurd (omega (
 
 pub none_marked : (marks : List Bool) (n : ℕ) → marks ≡ replicate n false → (k : ℕ) → get_or marks k false ≡ false
 none_marked marks n is k =
-    let P : List Bool → Type 0 = λ xs. get_or xs k false ≡ false in
-    subst P (sym is) (elim (cases_lt k n) [
+    rw is (elim (cases_lt k n) [
       | inl lt ↦ get_or-replicate n k false false lt
       | inr past ↦ get_or_past (replicate n false) k false (omega (arith, past, length-replicate n false))
     ])

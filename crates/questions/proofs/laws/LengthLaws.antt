@@ -1,10 +1,9 @@
 -- How many rules match in a walk at most, by a number for each chain.
-use Rattle.std.proofs.Common.{◌≡◌, inl, inr, ℕ, zero, suc, ◌+◌, ◌-◌, ◌<◌, ◌≤◌, Bool, true, false, cond, List, [], ◌∷◌, ◌++◌, length, get_or, drop, take, refl, sym, ◌∙◌, ap, arith, subst, Option, Some, None, min}
-use Rattle.std.specs.Prelude.{◌≢◌, replicate}
+use Rattle.std.proofs.Common.{◌≡◌, inl, inr, ℕ, zero, suc, ◌+◌, ◌-◌, ◌<◌, ◌≤◌, Bool, true, false, cond, List, [], ◌∷◌, ◌++◌, length, get_or, drop, take, refl, sym, ◌∙◌, ap, arith, subst, Option, Some, None, min, ◌≢◌, replicate, true≢false, get_or-set_other, get_or-set_same, length-append, length-set}
 use Rattle.std.proofs.Math.ListN.{set}
 use Rattle.std.specs.List.{position}
-use Rattle.std.proofs.lemmas.Bool.{cases_eq, cases_lt, cond-false, cond-true, true≢false}
-use Rattle.std.proofs.lemmas.List.{drop_more, get_or-replicate, get_or-set_other, get_or-set_same, get_or_past, length-append, length-replicate, length-set, take_more}
+use Rattle.std.proofs.lemmas.Bool.{cases_eq, cases_lt, cond-false, cond-true}
+use Rattle.std.proofs.lemmas.List.{drop_more, get_or-replicate, get_or_past, length-replicate, take_more}
 use Rattle.std.proofs.lemmas.Slice.Eq.{bytes_eq-Decides}
 use Rattle.std.proofs.lemmas.Option.{get_or_from_slice_get, slice_get_within}
 use Rattle.fields.specs.declared.packet.hook.Hook.{Hook}
@@ -145,7 +144,7 @@ module _ (t : Table) (numbers : List ℕ) (bounds : AreBounds t numbers (length 
       omega (arith, less, is, same, own)
 
 -- by which number a name's place goes
-abbrev by_place : List ℕ → Option ℕ → ℕ
+abbrev pub by_place : List ℕ → Option ℕ → ℕ
 by_place numbers o = elim o as (λ x. ℕ) [ None ↦ 0 | Some place ↦ get_or numbers place 0 ]
 
 -- the number of a hook's chain
@@ -186,13 +185,9 @@ none_too_long needs t numbers hook s bounds small a p at =
 pub short_by : (needs : List (List (List Need))) (t : Table) (numbers : List ℕ) (hook : Hook) (place : ℕ) → IsSound t → AreBounds t numbers (length t.chains) → place ≡ hook_index hook → get_or numbers place 0 < 65536
     → (a : Assignment) (p : Packet) → p.hook ≡ hook → (walk (resolved needs a t) p).verdict ≢ TooLong
 short_by needs t numbers hook place s bounds at less =
-    let P : ℕ → Type 0 = λ k. get_or numbers k 0 < 65536 in
-    none_too_long needs t numbers hook s bounds (subst P at less)
+    none_too_long needs t numbers hook s bounds (rw (at) at less)
 
 -- ---- numbers that are raised
-
-below_named : (t : Table) (a b : List ℕ) (name : List ℕ) → AreBelow a b → number_of t.chains a name ≤ number_of t.chains b name
-below_named t a b name below = elim (position (is_named name) t.chains) as (λ o. by_place a o ≤ by_place b o) [ None ↦ omega arith | Some place ↦ below place ]
 
 adds_more : (f g : List ℕ → ℕ) → ((name : List ℕ) → f name ≤ g name) → (o : Option Target) → added f o ≤ added g o
 adds_more f g le None = omega arith
@@ -213,7 +208,7 @@ all_more f g le (rule ∷ rules) =
 
 more_at : (t : Table) (a b : List ℕ) (place : ℕ) → AreBelow a b → added_at t a place ≤ added_at t b place
 more_at t a b place below =
-    let le = all_more (number_of t.chains a) (number_of t.chains b) (λ name. below_named t a b name below) (chain_at t place).rules in
+    let le = all_more (number_of t.chains a) (number_of t.chains b) (λ name. elim (position (is_named name) t.chains) as (λ o. by_place a o ≤ by_place b o) [ None ↦ omega arith | Some place ↦ below place ]) (chain_at t place).rules in
     omega (arith, le)
 
 -- a number that is raised to what the rules of its chain add
@@ -222,23 +217,16 @@ raised t old place within there = record {
   long = length-set old place (added_at t old place);
   below = λ bounds are below k. elim (cases_eq k place) [
     | inl e ↦ (
-        let P : ℕ → Type 0 = λ j. get_or (set old place (added_at t old place)) j 0 ≤ get_or bounds j 0 in
         let own = get_or-set_same old place (added_at t old place) 0 there in
         let le = more_at t old bounds place below in
         let bound = are place within in
-        subst P (sym e) (omega (arith, own, le, bound)))
+        rw e (omega (arith, own, le, bound)))
     | inr ne ↦ (
         let same = get_or-set_other old place k (added_at t old place) 0 ne in
         let le = below k in
         omega (arith, same, le))
   ];
 }
-
-pub raises_none : (t : Table) (old : List ℕ) → Raises t old old
-raises_none t old = record { long = refl; below = λ bounds are below. below }
-
-pub raises_then : (t : Table) (a b c : List ℕ) → Raises t a b → Raises t b c → Raises t a c
-raises_then t a b c one two = record { long = two.long ∙ one.long; below = λ bounds are below. two.below bounds are (one.below bounds are below) }
 
 -- then less room is left
 pub room_less : (numbers : List ℕ) (place n : ℕ) → place < length numbers → get_or numbers place 0 < n → n ≤ 65536 → room_left (set numbers place n) < room_left numbers
@@ -249,8 +237,7 @@ room_less (m ∷ numbers) (suc k) n lt more le = let h = room_less numbers k n (
 -- one chain more
 pub bounds_next : (t : Table) (old new : List ℕ) (place : ℕ) → new ≡ old → AreBounds t old place → added_at t old place ≤ get_or old place 0 → AreBounds t new (place + 1)
 bounds_next t old new place same below here =
-    let P : List ℕ → Type 0 = λ numbers. AreBounds t numbers (place + 1) in
-    subst P (sym same) (λ k lt. elim (cases_eq k place) [
+    rw same (λ k lt. elim (cases_eq k place) [
       | inl e ↦ (let Q : ℕ → Type 0 = λ j. added_at t old j ≤ get_or old j 0 in subst Q (sym e) here)
       | inr ne ↦ below k (omega (arith, lt, ne))
     ])

@@ -1,7 +1,6 @@
 -- The packets that may come to a rule's chain: those that rules which lead there let in.
-use Rattle.std.proofs.Common.{◌≡◌, ◌⊎◌, inl, inr, ℕ, ◌+◌, ◌<◌, Bool, true, false, List, [], ◌∷◌, length, get_or, refl, sym, ◌∙◌, ap, subst, Option, Some, None, Contains}
-use Rattle.std.specs.Prelude.{AllPairs}
-use Rattle.std.proofs.lemmas.Bool.{and_parts, true≢false}
+use Rattle.std.proofs.Common.{◌≡◌, ◌⊎◌, inl, inr, ℕ, ◌+◌, ◌<◌, Bool, true, false, List, [], ◌∷◌, length, get_or, refl, sym, ◌∙◌, ap, Option, Some, None, Contains, AllPairs, true≢false}
+use Rattle.std.proofs.lemmas.Bool.{and_parts}
 use Rattle.fields.specs.declared.packet.hook.Hook.{Hook}
 use Rattle.fields.specs.Hook.{name as hook_name}
 use Rattle.fields.specs.Packet.{PacketView as Packet}
@@ -48,8 +47,7 @@ module _ (s : Subject) (sound : IsSound (table_of s)) (step : Step) where
           let cs = (answered s a).chains in
           let found = rule_at_place s sound a p place leads.0 leads.1 in
           let by : Step = found.0 in
-          let P : Rest → Type 0 = λ r. Hits cs p.values r leads.0 in
-          let hit : Hits cs p.values (place_at cs by) leads.0 = subst P (sym found.2) leads.1 in
+          let hit : Hits cs p.values (place_at cs by) leads.0 = rw (← found.2) at leads.1 in
           let m = matched_there s a p.values by leads.0 sound found.1 hit in
           inr (by, record { there = found.1; names = names_entered s sound a p.values by leads.0 step.chain is.chain found.1 hit leads.2 }, (and_parts (allows_each p.values (rule_at (table_of s) by)) (cross p.values (rule_at (table_of s) by)) m.0).0)
 
@@ -111,8 +109,7 @@ module _ (s : Subject) (sound : IsSound (table_of s)) (step : Step) where
       by_call p e (inr (by, call, allows)) =
           let one : Call = record { to = step.chain; by = by } in
           let there = listed (table_of s) calls by step.chain all call.there call.names in
-          let P : Call → Type 0 = λ c. IsTakenAt s step (IsLetBy (table_of s) (Some c.by)) new hook in
-          (by, subst P there.2 (done there.0 one there.1 (ap (λ (c : Call). c.to) there.2)), allows)
+          (by, rw there.2 at (done there.0 one there.1 (ap (λ (c : Call). c.to) there.2)), allows)
 
   -- when all hooks are done
   pub takers_at_hooks : IsRule (table_of s) step → (near : Bool) (takers : Takers) → ((hook : Hook) → IsTakenAt s step (IsAsked (table_of s) step near) takers hook) → AllTake s step (IsAsked (table_of s) step near) takers

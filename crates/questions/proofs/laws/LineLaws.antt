@@ -1,13 +1,13 @@
 -- The line of a packet writes it, word by word.
-use Rattle.std.proofs.Common.{◌≡◌, ℕ, ◌+◌, ◌<◌, Bool, true, false, cond, List, [], ◌∷◌, ◌++◌, length, take, get_or, flat_map, ap, ◌∙◌, append-nil, ◌≢◌, ◌==◌, zero, suc, ◌≤◌, not, ◌&&◌, ◌||◌, eqb, map, Option, None, Some, Result, Ok, Err, is_some, is_none, refl, sym, subst, inl, inr, arith, eq-eqb}
-use Rattle.std.specs.Prelude.{filter, unwrap_or}
-use Rattle.std.proofs.lemmas.List.{take_more, ext_get_or, map-append}
+use Rattle.std.proofs.Common.{◌≡◌, ℕ, ◌+◌, ◌<◌, Bool, true, false, cond, List, [], ◌∷◌, ◌++◌, length, take, get_or, flat_map, ap, ◌∙◌, append-nil, ◌≢◌, ◌==◌, zero, suc, ◌≤◌, not, ◌&&◌, ◌||◌, eqb, map, Option, None, Some, Result, Ok, Err, is_some, is_none, refl, sym, subst, inl, inr, arith, eq-eqb, filter, unwrap_or, ext_get_or, eqb-true, true≢false}
+use Rattle.classify.proofs.laws.classifier.ClassifierLaws.{field_at}
+use Rattle.std.proofs.lemmas.List.{take_more, map-append}
 use Rattle.std.proofs.lemmas.List.Concat.{flat_map-append}
 use Rattle.std.proofs.lemmas.List.Elements.{filter-append}
 use Rattle.std.specs.List.{list_any}
 use Rattle.std.specs.Option.{option_or}
 use Rattle.std.specs.Str.{bytes_eq}
-use Rattle.std.proofs.lemmas.Bool.{and_parts, eqb-true, false≢true, true≢false}
+use Rattle.std.proofs.lemmas.Bool.{and_parts, false≢true}
 use Rattle.std.proofs.lemmas.Slice.Eq.{bytes_eq-Decides}
 use Rattle.fields.specs.declared.numbers.field.Field.{Field}
 use Rattle.fields.specs.Packet.{PacketView as Packet, carries_key, checked, fault_of_part, field_of, lacks, leftmost_fault, number_of_text, packet_at, packet_of, packet_shape, part_of, point, shape_of, strays, text_in, text_of, value_on, word_fault, carries, key_of}
@@ -294,22 +294,14 @@ module _ (p : Packet) (can : CanBeWritten p) where
       go false free c is = refl
 
   each_value : map (point p) all_fields ≡ p.values
-  each_value = ext_get_or 0 (map (point p) all_fields) p.values (sym can.at_hook.packet.whole) at
+  each_value = ext_get_or 0 (map (point p) all_fields) p.values (sym can.at_hook.packet.whole) (λ i lt. (let (f, is) = field_at i lt in subst At is (own_value f)))
     where
-      at : (i : ℕ) → i < 12 → get_or (map (point p) all_fields) i 0 ≡ get_or p.values i 0
-      at zero h = refl
-      at (suc zero) h = refl
-      at (suc (suc zero)) h = refl
-      at (suc (suc (suc zero))) h = refl
-      at (suc (suc (suc (suc zero)))) h = refl
-      at (suc (suc (suc (suc (suc zero))))) h = refl
-      at (suc (suc (suc (suc (suc (suc zero)))))) h = refl
-      at (suc (suc (suc (suc (suc (suc (suc zero))))))) h = refl
-      at (suc (suc (suc (suc (suc (suc (suc (suc zero)))))))) h = refl
-      at (suc (suc (suc (suc (suc (suc (suc (suc (suc zero))))))))) h = refl
-      at (suc (suc (suc (suc (suc (suc (suc (suc (suc (suc zero)))))))))) h = refl
-      at (suc (suc (suc (suc (suc (suc (suc (suc (suc (suc (suc zero))))))))))) h = refl
-      at (suc (suc (suc (suc (suc (suc (suc (suc (suc (suc (suc (suc i)))))))))))) h = absurd (omega arith)
+      At : ℕ → Type 0
+      At i = get_or (map (point p) all_fields) i 0 ≡ get_or p.values i 0
+
+      own_value : (f : Field) → At (index f)
+      own_value field.Source = refl
+      own_value _ = refl
 
   -- the words are read as the packet
   own_packet : packet_of (hook_name p.hook ∷ own) ≡ Ok p

@@ -1,10 +1,9 @@
 -- Which answers suffice for a rule to be on a packet's walk, which of them are necessary, and how they are listed by their conditions.
-use Rattle.std.proofs.Common.{◌≡◌, ◌≢◌, ◌⊎◌, inl, inr, ℕ, ◌+◌, ◌<◌, ◌≤◌, Bool, true, false, cond, not, List, [], ◌∷◌, length, get_or, refl, sym, ◌∙◌, ap, arith, subst, All, Any, Contains, Ok, ◌-◌, ◌++◌, Option, Some, None}
-use Rattle.std.specs.Prelude.{◌==◌, IfOk, IfNone, IfSome, replicate, take}
-use Rattle.std.proofs.lemmas.Bool.{cases_lt, true≢false, cases_eq}
+use Rattle.std.proofs.Common.{◌≡◌, ◌≢◌, ◌⊎◌, inl, inr, ℕ, ◌+◌, ◌<◌, ◌≤◌, Bool, true, false, cond, not, List, [], ◌∷◌, length, get_or, refl, sym, ◌∙◌, ap, arith, subst, All, Any, Contains, Ok, Option, Some, None, ◌==◌, IfOk, IfNone, IfSome, true≢false, get_or-set_other, get_or-set_same}
+use Rattle.std.proofs.lemmas.Bool.{cases_lt, cases_eq}
 use Rattle.std.proofs.lemmas.Bool.Decides.{eqb_tells}
-use Rattle.std.proofs.lemmas.List.{get_or_default, get_or-replicate, get_or-set_other, get_or-set_same, get_or_append_left, get_or-append-add, get_or_past, length-replicate, take_all}
-use Rattle.std.proofs.lemmas.List.Elements.{All-contains, All-filter, Contains-get_or, filter_passes, All-push, Contains-append_left, Contains-push}
+use Rattle.std.proofs.lemmas.List.{get_or_default}
+use Rattle.std.proofs.lemmas.List.Elements.{All-contains, All-filter, Contains-get_or, filter_passes}
 use Rattle.std.proofs.lemmas.List.Folds.{list_all_at}
 use Rattle.std.proofs.lemmas.Result.{IfOk-at_ok}
 use Rattle.std.proofs.Math.ListN.{set}
@@ -27,10 +26,10 @@ use Rattle.questions.specs.declared.foreign.subject.Subject.{Subject}
 use Rattle.questions.specs.declared.walking.front.Front.{Front}
 use Rattle.questions.specs.declared.walking.scope.Scope.{Scope}
 use Rattle.questions.specs.declared.walking.task.Leaf.{Leaf}
-use Rattle.questions.specs.steps.Answered.{IsOpen, answers_but, others_than, AreIndexed, AreSameIndex, answer_in}
+use Rattle.questions.specs.steps.Answered.{IsOpen, answers_but, others_than, AreIndexed, answer_in}
 use Rattle.questions.specs.steps.Takers.{IsMissed, IsSurelyOn, needs_of}
 use Rattle.questions.specs.steps.Waiting.{Begins}
-use Rattle.questions.proofs.laws.AnswerLaws.{agrees_before, either_is_given, consistent_with_one_more}
+use Rattle.questions.proofs.laws.AnswerLaws.{agrees_before, either_is_given}
 use Rattle.questions.proofs.laws.ForeignLaws.{left_sound}
 use Rattle.questions.proofs.laws.TrailLaws.{keeps, on_entries_by, step_by, none_some}
 use Rattle.questions.proofs.laws.ResolvedLaws.{entry_left, length_same}
@@ -59,13 +58,11 @@ missed_by s found p step answers sound rule exact (k, leaf, lt, is, missed) =
     let (a, agrees, unmet) = lapse in
     let Shown : Leaf → Type 0 = λ leaf. IsOf (known_by s a) p (scope_of leaf) → Agrees a answers × (walk (answered s a) p ≡ walked_by (known_by s a) (answered s a).chains leaf) in
     let (given, walked) = All-contains Shown found leaf (exact a) (k, lt, is) (record { inside = inside; agrees = agrees }) in
-    let P : Walked → Type 0 = λ w. Contains w.trail (entry_of (answered s a).chains step) in
-    let Q : Entry → Type 0 = λ entry. Contains (walk (answered s a) p).trail entry in
     let within : step.chain < length (answered s a).chains = omega (arith, rule.chain, length_same s.needs.now a (table_of s).chains) in (
       a,
       given,
       λ on.
-          let (there, met) = step_by (answered s a) (known_by s a) leaf.trail.items step (left_sound s.needs.now a (table_of s) sound) within (subst P walked (subst Q (sym (entry_left s.needs.now a (table_of s) step)) on)) in
+          let (there, met) = step_by (answered s a) (known_by s a) leaf.trail.items step (left_sound s.needs.now a (table_of s) sound) within (rw walked at (rw (← entry_left s.needs.now a (table_of s) step) at on)) in
           absurd (true≢false (sym met ∙ unmet there)),
     )
 
@@ -132,24 +129,13 @@ but_unanswered condition answers k d lt = λ same.
     true≢false (sym (filter_passes (others_than condition) answers k d lt) ∙ own_out (get_or (answers_but condition answers) k d).condition condition same)
   where
     own_out : (x y : ℕ) → x ≡ y → not (x == y) ≡ false
-    own_out x y same =
-        elim (eqb_tells x y) [
-          | inl (is, at) ↦ ap not is
-          | inr (un, apart) ↦ absurd (apart same)
-        ]
+    own_out x y same = elim (eqb_tells x y) [ inl (is, at) ↦ ap not is | inr (un, apart) ↦ absurd (apart same) ]
 
 -- all others are
 pub but_has_others : (condition : ℕ) (answers : List Answer) → All (λ (other : Answer). other.condition ≢ condition → Contains (answers_but condition answers) other) answers
 but_has_others condition answers k d lt = λ apart.
     let x = get_or answers k d in
-    keeps (others_than condition) answers x (Contains-get_or answers k d lt) (other_in x.condition condition apart)
-  where
-    other_in : (x y : ℕ) → x ≢ y → not (x == y) ≡ true
-    other_in x y apart =
-        elim (eqb_tells x y) [
-          | inl (is, at) ↦ absurd (apart at)
-          | inr (un, more) ↦ ap not un
-        ]
+    keeps (others_than condition) answers x (Contains-get_or answers k d lt) (elim (eqb_tells x.condition condition) [ inl (is, at) ↦ absurd (apart at) | inr (un, more) ↦ ap not un ])
 
 module _ (s : Subject) (step : Step) (p : Packet) (budget : ℕ) where
   abbrev Necessary : List Answer → Answer → Type 0
@@ -185,8 +171,7 @@ module _ (s : Subject) (step : Step) (p : Packet) (budget : ℕ) where
             | inr most ↦ (
                 let here : j ≡ place = omega (arith, after, most) in
                 let is : x ≡ tested = sym same ∙ ap (λ (i : ℕ). get_or all i x) here ∙ get_or_default all place x d within in
-                let P : Answer → Type 0 = λ y. Necessary answers y in
-                inl (subst P (sym is) (record {
+                inl (rw is (record {
                   others = answers_but tested.condition answers;
                   consistent = consistent;
                   without = but_unanswered tested.condition answers;
@@ -228,9 +213,6 @@ few_necessary s step words p budget answers is all q same =
 
 -- ---- Answers, listed by their conditions.
 
-some_same : (a b : Bool) → ◌≡◌ {A = Option Bool} (Some a) (Some b) → a ≡ b
-some_same a b e = cc
-
 -- what the list says of a condition
 pub to_answered : (index : List (Option Bool)) (answers : List Answer) (condition : ℕ) (o : Option Bool) → AreIndexed index answers → answer_in index condition ≡ o
     → IfSome o (λ (holds : Bool). Contains answers (record { condition = condition; holds = holds }))
@@ -240,29 +222,6 @@ to_answered index answers condition (Some holds) are e = are.only condition hold
 pub to_unanswered : (index : List (Option Bool)) (answers : List Answer) (condition : ℕ) (o : Option Bool) → AreIndexed index answers → answer_in index condition ≡ o → IfNone o (IsUnanswered answers condition)
 to_unanswered index answers condition (Some holds) are e = tt
 to_unanswered index answers condition None are e = λ k d lt same. none_some (sym e ∙ ap (answer_in index) (sym same) ∙ are.each k d lt)
-
--- one answer more
-module _ (index : List (Option Bool)) (answers : List Answer) (condition : ℕ) (holds : Bool) where
-  abbrev one : Answer
-  one = record { condition = condition; holds = holds }
-
-  pub index_more : AreIndexed index answers → IsUnanswered answers condition → condition < length index → AreIndexed (set index condition (Some holds)) (answers ++ one ∷ [])
-  index_more are free within =
-      let new : List (Option Bool) = set index condition (Some holds) in
-      let Own : Answer → Type 0 = λ answer. answer_in new answer.condition ≡ Some answer.holds in
-      record {
-        consistent = consistent_with_one_more answers condition holds are.consistent free;
-        each = All-push Own answers one (λ k d lt. get_or-set_other index condition (get_or answers k d).condition (Some holds) None (free k d lt) ∙ are.each k d lt) (get_or-set_same index condition (Some holds) None within);
-        only = λ other value is. elim (cases_eq other condition) [
-          | inr apart ↦ Contains-append_left answers (one ∷ []) (record { condition = other; holds = value }) (are.only other value (sym (get_or-set_other index condition other (Some holds) None apart) ∙ is))
-          | inl same ↦ (
-              let at : answer_in new condition ≡ Some value = ap (answer_in new) (sym same) ∙ is in
-              let holds_is : holds ≡ value = some_same holds value (sym (get_or-set_same index condition (Some holds) None within) ∙ at) in
-              let P : Answer → Type 0 = λ x. Contains (answers ++ one ∷ []) x in
-              let make : ℕ → Bool → Answer = λ c h. record { condition = c; holds = h } in
-              subst P (ap (λ c. make c holds) (sym same) ∙ ap (make other) holds_is) (Contains-push answers one))
-        ];
-      }
 
 -- one answer less, in a list that has none at its condition
 module _ (index new : List (Option Bool)) (answers : List Answer) (condition : ℕ) where
@@ -285,29 +244,3 @@ module _ (index new : List (Option Bool)) (answers : List Answer) (condition : �
 -- a list that is set to none there, if it is that long
 pub set_none : (index : List (Option Bool)) (condition : ℕ) → condition < length index → ((other : ℕ) → other ≢ condition → answer_in (set index condition None) other ≡ answer_in index other) × (answer_in (set index condition None) condition ≡ None)
 set_none index condition within = (λ other apart. get_or-set_other index condition other None None apart, get_or-set_same index condition None None within)
-
--- the same answers in another list
-pub index_same : (index new : List (Option Bool)) (answers : List Answer) → AreSameIndex index new → AreIndexed index answers → AreIndexed new answers
-index_same index new answers same are = record {
-  consistent = are.consistent;
-  each = λ k d lt. same (get_or answers k d).condition ∙ are.each k d lt;
-  only = λ condition holds is. are.only condition holds (sym (same condition) ∙ is);
-}
-
--- a list that is made longer
-pub longer_same : (index : List (Option Bool)) (n m : ℕ) → length index ≤ n → AreSameIndex index (take n index ++ replicate m None)
-longer_same index n m long condition =
-    let whole : take n index ≡ index = take_all n index long in
-    ap (λ (l : List (Option Bool)). answer_in (l ++ replicate m None) condition) whole ∙ elim (cases_lt condition (length index)) [
-      | inl within ↦ get_or_append_left index (replicate m None) None condition within
-      | inr past ↦ (
-          let at : condition ≡ length index + (condition - length index) = omega (arith, past) in
-          ap (answer_in (index ++ replicate m None)) at ∙ get_or-append-add index (replicate m None) (condition - length index) None
-          ∙ blank m (condition - length index) ∙ sym (get_or_past index condition None past))
-    ]
-  where
-    blank : (m k : ℕ) → answer_in (replicate m None) k ≡ None
-    blank m k = elim (cases_lt k m) [
-      | inl within ↦ get_or-replicate m k None None within
-      | inr past ↦ get_or_past (replicate m None) k None (omega (arith, past, length-replicate {A = Option Bool} m None))
-    ]

@@ -1,7 +1,7 @@
 -- A packet that a line writes can be at its hook, and each number up to a field's top is that of a packet that can be.
-use Rattle.std.proofs.Common.{◌≡◌, ◌≤◌, ℕ, Bool, true, false, cond, ◌&&◌, not, ◌==◌, List, [], ◌∷◌, map, refl, sym, ◌∙◌, ap, subst, Option, Some, None, is_some, unwrap_or, lit≤, inl, inr, get_or, arith}
-use Rattle.std.specs.Prelude.{Result, Ok, Err, slice_index}
-use Rattle.std.proofs.lemmas.Bool.{true≢false, cases_Bool, cond-false, cond_both, eq-eqb, eqb-true}
+use Rattle.std.proofs.Common.{◌≡◌, ◌≤◌, ℕ, length, Bool, true, false, cond, ◌&&◌, not, ◌==◌, List, [], ◌∷◌, map, refl, sym, ◌∙◌, ap, subst, Option, Some, None, is_some, unwrap_or, lit≤, inl, inr, get_or, arith, Result, Ok, Err, slice_index, true≢false, eq-eqb, eqb-true}
+use Rattle.std.proofs.lemmas.Bool.{cases_Bool, cond-false, cond_both}
+use Rattle.std.proofs.lemmas.List.{get_or_default, same_lists}
 use Rattle.std.proofs.lemmas.List.Folds.{list_any_at}
 use Rattle.std.proofs.Math.Dec.{eqb}
 use Rattle.fields.specs.Sequence.{◌>>=◌}
@@ -11,9 +11,10 @@ use Rattle.fields.specs.declared.packet.PacketFault.TheVariants.{NotCarried, Key
 use Rattle.fields.specs.declared.packet.hook.Hook.{Hook}
 use Rattle.fields.specs.numbers.Field.{all_fields, index, top}
 use Rattle.fields.specs.Hook.{hook_of}
-use Rattle.fields.specs.Packet.{carries, is_first_of, key_of, PacketView as Packet, carries_key, checked, lacks_key, leftmost_fault, number_of_text, packet_at, shape_of, strays, strays_key, text_of, value_on, point}
+use Rattle.fields.specs.Packet.{carries, is_first_of, key_of, PacketView as Packet, IsPacket, carries_key, checked, lacks_key, leftmost_fault, number_of_text, packet_at, shape_of, strays, strays_key, text_of, value_on, point}
 use Rattle.fields.specs.values.Protocol.{carries_ports}
 use Rattle.fields.proofs.laws.PacketLaws.{number_on_fits}
+use Rattle.classify.proofs.laws.classifier.ClassifierLaws.{field_at}
 use Rattle.rules.proofs.laws.BoxLaws.{here_is, index-lt}
 use Rattle.fields.specs.numbers.Spans.{SpanSet, has}
 use Rattle.rules.specs.Boxed.{IsBoxOf, set_on}
@@ -67,8 +68,7 @@ carries_alike hook words _ = refl
 
 -- a field that isn't carried, and of which no key strays, is what it is where no word gives it
 not_given : (hook : Hook) (words : List (List ℕ)) (f : Field) → strays_key (shape_of hook words) words ≡ false → carries (shape_of hook words) (key_of f).carrier ≡ false → value_on words f ≡ (key_of f).absent
-not_given hook words f none un =
-    by_text (text_of f words) refl
+not_given hook words f none un = by_text (text_of f words) refl
   where
     by_text : (o : Option (List ℕ)) → text_of f words ≡ o → unwrap_or (o >>= λ text. number_of_text f text) (key_of f).absent ≡ (key_of f).absent
     by_text None e = refl
@@ -96,8 +96,7 @@ by_checks hook words p true lack none e = absurd (cc)
 by_checks hook words p false true none e = absurd (cc)
 by_checks hook words p false false none e =
     let is : numbers hook words ≡ p = cc in
-    let P : Packet → Type 0 = λ (q : Packet). IsAtHook q in
-    subst P is (at_hook hook words none)
+    rw is at (at_hook hook words none)
 
 by_fault : (hook : Hook) (words : List (List ℕ)) (p : Packet) (o : Option PacketFault) → checked hook words o ≡ Ok p → IsAtHook p
 by_fault hook words p (Some fault) e = absurd (cc)
@@ -111,6 +110,16 @@ pub written_at_hooks : LinesWritePacketsAtHooks
 written_at_hooks [] p e = absurd (cc)
 written_at_hooks (word ∷ words) p e = by_hook (hook_of word) words p e
 
+-- packets at one hook with one number on each field are one packet
+pub one_packet : (p q : Packet) → IsPacket p → IsPacket q → q.hook ≡ p.hook → ((f : Field) → point q f ≡ point p f) → q ≡ p
+one_packet p q own other there each =
+    let long : length q.values ≡ length p.values = other.whole ∙ sym own.whole in
+    let same : q.values ≡ p.values = same_lists q.values p.values long (λ k d lt.
+    let (f, at) = field_at k (omega (arith, lt, other.whole)) in
+    get_or_default q.values k d 0 lt ∙ (rw (at) at (each f)) ∙ get_or_default p.values k 0 d (omega (arith, lt, long))) in
+    let make : Hook → List ℕ → Packet = λ h values. record { hook = h; values = values } in
+    ap (λ h. make h q.values) there ∙ ap (make p.hook) same
+
 -- ---- Numbers that packets can have: each number up to a field's top is that of a packet that can be at a hook.
 
 -- a box has a number on the field
@@ -119,8 +128,7 @@ HasNumberOn box f = (x : ℕ) × (x ≤ top f) × (has (set_on f box) x ≡ true
 
 pub number_of_set : (box : List SpanSet) (f : Field) (set : SpanSet) → set.intervals ≡ set_on f box → set.top ≡ top f → HasOne set → HasNumberOn box f
 number_of_set box f set same tops one =
-    let P : ℕ → Type 0 = λ n. one.0 ≤ n in
-    (one.0, subst P tops one.1, ap (λ is. has is one.0) (sym same) ∙ one.2)
+    (one.0, rw tops at one.1, ap (λ is. has is one.0) (sym same) ∙ one.2)
 
 -- a protocol whose packets carry the field
 abbrev protocol_with : Field → ℕ
@@ -159,14 +167,8 @@ carries_protocol p = refl
 same_index : (f g : Field) → eqb (index g) (index f) ≡ true → f ≡ g
 same_index f g e = sym (here_is f f) ∙ ap (λ k. get_or all_fields k f) (sym (eqb-true (index g) (index f) e)) ∙ here_is g f
 
-having_it : (f : Field) (x : ℕ) → point (packet_having f x) f ≡ x
-having_it f x = at_index (number_with f x) f ∙ ap (λ b. cond b x (cond (eqb (index f) (index field.Protocol)) (protocol_with f) 0)) (eq-eqb (index f) (index f) refl)
-
 can_have : (f : Field) (x : ℕ) → x ≤ top f → IsAtHook (packet_having f x)
-can_have f x le = record {
-  packet = record { whole = refl; within = within };
-  carried = carried;
-}
+can_have f x le = record { packet = record { whole = refl; within = within }; carried = carried }
   where
     within : (g : Field) → point (packet_having f x) g ≤ top g
     within g =
@@ -193,4 +195,4 @@ pub possible_of : (rule : Rule) (box : List SpanSet) → IsBoxOf rule box → Ha
 possible_of rule box boxed some f impossible =
     let n = some f in
     let p : Packet = packet_having f n.0 in
-    true≢false (sym n.2 ∙ boxed f n.0 n.1 ∙ ap (λ y. allows rule f y) (sym (having_it f n.0)) ∙ impossible p (can_have f n.0 n.1))
+    true≢false (sym n.2 ∙ boxed f n.0 n.1 ∙ ap (λ y. allows rule f y) (sym (at_index (number_with f n.0) f ∙ ap (λ b. cond b n.0 (cond (eqb (index f) (index field.Protocol)) (protocol_with f) 0)) (eq-eqb (index f) (index f) refl))) ∙ impossible p (can_have f n.0 n.1))

@@ -1,8 +1,8 @@
 -- Parts of a box: what two boxes have in common, and that the parts have numbers and share none.
-use Rattle.std.proofs.Common.{◌≡◌, inl, inr, ℕ, zero, suc, ◌+◌, ◌<◌, ◌≤◌, true, false, ◌||◌, List, [], ◌∷◌, length, get_or, refl, ◌∙◌, ap, arith, Bool, sym, subst, below_more, max, min, map, ◌++◌, ◌-◌, not, reverse, All, AllPairs}
-use Rattle.std.proofs.lemmas.Bool.{and_from, and_parts, cases_Bool, cases_lt, le-leb, leb-true, or_right, cases_eq, true≢false}
+use Rattle.std.proofs.Common.{◌≡◌, inl, inr, ℕ, zero, suc, ◌+◌, ◌<◌, ◌≤◌, true, false, ◌||◌, List, [], ◌∷◌, length, get_or, refl, ◌∙◌, ap, arith, Bool, sym, subst, below_more, max, min, map, ◌++◌, ◌-◌, not, reverse, All, AllPairs, le-leb, leb-true, true≢false, length-append}
+use Rattle.std.proofs.lemmas.Bool.{and_from, and_parts, cases_Bool, cases_lt, or_right, cases_eq}
 use Rattle.std.proofs.Math.Dec.{leb}
-use Rattle.std.proofs.lemmas.List.{get_or_default, length-append, reverse-append}
+use Rattle.std.proofs.lemmas.List.{get_or_default, reverse-append}
 use Rattle.std.proofs.lemmas.List.Elements.{Contains-push, All-append, All-cons, All-map, All-nil, All-push, Contains-append_cases, Contains-get_or}
 use Rattle.std.proofs.lemmas.List.Kept.{AllPairs-cons}
 use Rattle.std.proofs.lemmas.List.Quantifiers.{all_pairs_push}
@@ -114,10 +114,9 @@ met_next own other k a b is too lt ia ib here below j less =
       | inr past ↦ (
           let same : k ≡ j = omega (arith, less, past) in
           let P : SpanSet → SpanSet → Type 0 = λ x y. HaveCommon x y in
-          let Q : ℕ → Type 0 = λ i. HaveCommon (get_or own i no_set) (get_or other i no_set) in
           let one : a ≡ get_or own k no_set = ia ∙ get_or_default own k a no_set (omega (arith, lt, box_long own is)) in
           let two : b ≡ get_or other k no_set = ib ∙ get_or_default other k b no_set (omega (arith, lt, box_long other too)) in
-          subst Q same (subst (P (get_or own k no_set)) two (subst (λ (x : SpanSet). P x b) one here)))
+          rw same at (subst (P (get_or own k no_set)) two (subst (λ (x : SpanSet). P x b) one here)))
     ]
 
 -- and at one more where the second box has all numbers
@@ -149,8 +148,7 @@ module _ (own other : Rule) (a b : List SpanSet) (is : IsBoxOf own a) (too : IsB
       (numbers, point, sym (box_of_rule own a numbers is point) ∙ first.each, sym (box_of_rule other b numbers too point) ∙ second.each)
 
   pub not_share : ((numbers : List ℕ) → Has a numbers → Has b numbers → ⊥) → ShareNumbers own other → ⊥
-  not_share none w =
-      none w.0 (record { each = box_of_rule own a w.0 is w.1 ∙ w.2 }) (record { each = box_of_rule other b w.0 too w.1 ∙ w.3 })
+  not_share none w = none w.0 (record { each = box_of_rule own a w.0 is w.1 ∙ w.2 }) (record { each = box_of_rule other b w.0 too w.1 ∙ w.3 })
 
 -- ---- Boxes that a rule parts: what it may match of them.
 

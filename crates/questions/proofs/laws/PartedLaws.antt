@@ -1,7 +1,6 @@
 -- Tasks and leaves that part a scope: what a step adds to the tasks that are left, and how each of them got on.
-use Rattle.std.proofs.Common.{◌≡◌, inl, inr, ℕ, suc, ◌+◌, ◌≤◌, Bool, true, false, List, [], ◌∷◌, ◌++◌, length, get_or, map, reverse, refl, sym, ◌∙◌, ap, arith, subst, Some, All, AllPairs, ◌≢◌, Option, None, Contains}
-use Rattle.std.proofs.lemmas.Bool.{true≢false}
-use Rattle.std.proofs.lemmas.List.{append-nil, append_assoc, length-append, length-map, length-reverse, map-append, reverse-append, get_or_push, length_push}
+use Rattle.std.proofs.Common.{◌≡◌, inl, inr, ℕ, suc, ◌+◌, ◌≤◌, Bool, true, false, List, [], ◌∷◌, ◌++◌, length, get_or, map, reverse, refl, sym, ◌∙◌, ap, arith, subst, Some, All, AllPairs, ◌≢◌, Option, None, Contains, true≢false, append-nil, append_assoc, length-append}
+use Rattle.std.proofs.lemmas.List.{length-map, length-reverse, map-append, reverse-append, get_or_push, length_push}
 use Rattle.std.proofs.lemmas.List.Elements.{All-append, All-cons, All-map, All-nil, All-pop, Contains-get_or, All-contains}
 use Rattle.std.proofs.lemmas.List.Kept.{AllPairs-cons}
 use Rattle.std.specs.List.{position}
@@ -32,11 +31,8 @@ use Rattle.questions.proofs.laws.PartLaws.{all_reversed, joined_pairs, mapped_pa
 
 -- ---- one part
 
-within_itself : (own : Scope) → IsWithin own own
-within_itself own = record { inside = λ numbers point has. has; some = λ some. some; answers = ([], sym (append-nil own.answers)) }
-
 one_alone : (own : Scope) → AreParts own (own ∷ [])
-one_alone own = record { each = All-cons (IsWithin own) own [] (within_itself own) (All-nil (IsWithin own)); apart = λ i j d lt within. absurd (omega (arith, lt, within)) }
+one_alone own = record { each = All-cons (IsWithin own) own [] (record { inside = λ numbers point has. has; some = λ some. some; answers = ([], sym (append-nil own.answers)) }) (All-nil (IsWithin own)); apart = λ i j d lt within. absurd (omega (arith, lt, within)) }
 
 pub one_part : (own : Scope) (old new : Front) → AddsOne own old new → AddsParts 1 own old new
 one_part own old new h =
@@ -88,11 +84,7 @@ module _ (box : List SpanSet) (answers : List Answer) where
   }
 
   boxes_apart : (boxes : List (List SpanSet)) → AreDisjoint boxes → AllPairs AreApart (map each (reverse boxes))
-  boxes_apart boxes are =
-      reversed_pairs_of boxes (λ i j d lt within. inl (are.apart i j d lt within))
-    where
-      reversed_pairs_of : (bs : List (List SpanSet)) → AllPairs (λ a b. AreApart (each a) (each b)) bs → AllPairs AreApart (map each (reverse bs))
-      reversed_pairs_of bs h = mapped_pairs AreApart each (reverse bs) (reversed_pairs (λ a b. AreApart (each a) (each b)) (λ a b. apart_turned (each a) (each b)) bs h)
+  boxes_apart boxes are = mapped_pairs AreApart each (reverse boxes) (reversed_pairs (λ a b. AreApart (each a) (each b)) (λ a b. apart_turned (each a) (each b)) boxes (λ i j d lt within. inl (are.apart i j d lt within)))
 
   -- boxes, and other parts
   parts_with : (boxes : List (List SpanSet)) (parts : List Scope) → AreDisjoint boxes → ((numbers : List ℕ) → IsPoint numbers → IsInSome boxes numbers → Has box numbers) → AreParts own parts
@@ -106,7 +98,6 @@ module _ (box : List SpanSet) (answers : List Answer) where
   -- the boxes alone
   pub boxes_part : (boxes : List (List SpanSet)) (old new : Front) → AreDisjoint boxes → ((numbers : List ℕ) → IsPoint numbers → IsInSome boxes numbers → Has box numbers) → AddsBoxes boxes answers old new → AddsParts (length boxes) own old new
   boxes_part boxes old new are inside h =
-      let P : List Scope → Type 0 = λ scopes. AreParts own (scopes ++ []) in
       let none : AreParts own [] = record { each = All-nil (IsWithin own); apart = λ i j d lt within. absurd (omega (arith, within)) } in
       record {
         tasks = h.tasks;
@@ -114,7 +105,7 @@ module _ (box : List SpanSet) (answers : List Answer) where
         more = h.more;
         ends = h.same ∙ sym (append-nil old.leaves.items);
         few = omega (arith, as_many boxes h.tasks h.scopes);
-        parts = subst P (sym h.scopes) (parts_with boxes [] are inside none (λ k d lt. All-nil (AreApart (each (get_or boxes k d)))));
+        parts = rw (← h.scopes) at (parts_with boxes [] are inside none (λ k d lt. All-nil (AreApart (each (get_or boxes k d)))));
       }
 
   -- boxes, and then parts of a box that shares no numbers with them
@@ -130,7 +121,6 @@ module _ (box : List SpanSet) (answers : List Answer) where
       let others : AreParts own here = record { each = λ k d lt. within_more own (under inner answers) (get_or here k d) inner_within (h.parts.each k d lt); apart = h.parts.apart } in
       let apart : All (λ part. All (AreApart (each part)) here) outside = λ i d lt k e less.
       inl (λ numbers point out in_part. are.apart 0 (suc i) d (omega arith) (omega (arith, lt)) numbers point ((h.parts.each k e less).inside numbers point in_part) out) in
-      let P : List Scope → Type 0 = λ scopes. AreParts own scopes in
       let same : scopes_of (boxes.tasks ++ h.tasks) ++ map scope_of h.leaves ≡ map each (reverse outside) ++ here =
       ap (λ (ss : List Scope). ss ++ map scope_of h.leaves) (map-append (λ (task : Task). task.scope) boxes.tasks h.tasks ∙ ap (λ (ss : List Scope). ss ++ scopes_of h.tasks) boxes.scopes)
       ∙ append_assoc (map each (reverse outside)) (scopes_of h.tasks) (map scope_of h.leaves) in
@@ -140,7 +130,7 @@ module _ (box : List SpanSet) (answers : List Answer) where
         more = h.more ∙ ap (λ (ts : List Task). ts ++ h.tasks) boxes.more ∙ append_assoc old.tasks.items boxes.tasks h.tasks;
         ends = h.ends ∙ ap (λ (ls : List Leaf). ls ++ h.leaves) boxes.same;
         few = omega (arith, h.few, length-append boxes.tasks h.tasks, as_many outside boxes.tasks boxes.scopes);
-        parts = subst P (sym same) (parts_with outside here disjoint rest others apart);
+        parts = rw (← same) at (parts_with outside here disjoint rest others apart);
       }
 
   -- those of a cut, where the rule's part goes on in at most two
@@ -214,14 +204,13 @@ parted_by box same answers condition old mid new inside some first second =
     (All-pop (λ (x : Answer). a x.condition ≡ x.holds) (more answers condition holds) answers (Some (answer holds)) refl agrees).1 in
     let apart : AreApart one other = inr (λ a here there. true≢false (sym (given a true there) ∙ given a false here)) in
     let P : Scope → Scope → Type 0 = λ s r. AreParts own (s ∷ r ∷ []) in
-    let Q : Scope → Type 0 = λ s. P s second.task.scope in
     record {
       tasks = first.task ∷ second.task ∷ [];
       leaves = [];
       more = second.more ∙ ap (λ (ts : List Task). ts ++ second.task ∷ []) first.more ∙ append_assoc old.tasks.items (first.task ∷ []) (second.task ∷ []);
       ends = second.same ∙ first.same ∙ sym (append-nil old.leaves.items);
       few = omega arith;
-      parts = subst Q (sym first.scope) (subst (P one) (sym second.scope) (record {
+      parts = rw (← first.scope) at (subst (P one) (sym second.scope) (record {
         each = All-cons (IsWithin own) one (other ∷ []) (record { inside = inside; some = some; answers = (answer false ∷ [], refl) })
             (All-cons (IsWithin own) other [] (record { inside = λ numbers point has. has; some = λ h. h; answers = (answer true ∷ [], refl) }) (All-nil (IsWithin own)));
         apart = AllPairs-cons AreApart one (other ∷ []) (All-cons (AreApart one) other [] apart (All-nil (AreApart one)))
@@ -256,17 +245,19 @@ put_below chains name scope waiting trail old new =
     adds_weaker (IsPut scope waiting trail) (IsEntered chains name waiting trail) old new (λ next put. record { rests = inl put.there.rests; trail = put.there.trail })
 
 module _ (chains : List Chain) (to : Option Target) (below : List Pending) (behind : Pending) (trail : List Step) (old new : Front) where
+  turned_by : (target : Option Target) → target ≡ to → AddsTasks (IsTurned chains to below behind trail) old new → AddsTasks (IsTurned chains target below behind trail) old new
+  turned_by target e h = let P : Option Target → Type 0 = λ o. AddsTasks (IsTurned chains o below behind trail) old new in subst P (sym e) h
+
   -- a task that is put there followed a target
-  pub put_turned : (scope : Scope) (rests : List Pending) → WaitAfter chains to below behind rests → AddsTasks (IsPut scope rests trail) old new → AddsTasks (IsTurned chains to below behind trail) old new
-  put_turned scope rests after =
-      let P : List Pending → Type 0 = λ waiting. WaitAfter chains to below behind waiting in
-      adds_weaker (IsPut scope rests trail) (IsTurned chains to below behind trail) old new (λ next put. record { rests = subst P (sym put.there.rests) after; trail = put.there.trail })
+  pub put_turned : (target : Option Target) → target ≡ to → (scope : Scope) (rests : List Pending) → WaitAfter chains to below behind rests → AddsTasks (IsPut scope rests trail) old new → AddsTasks (IsTurned chains target below behind trail) old new
+  put_turned target e scope rests after h =
+      turned_by target e (adds_weaker (IsPut scope rests trail) (IsTurned chains to below behind trail) old new (λ next put. record { rests = rw (← put.there.rests) at after; trail = put.there.trail }) h)
 
   -- so did one that came into a chain
-  pub entered_turned : (name : List ℕ) (waiting : List Pending) → ((rests : List Pending) → Enters chains name waiting rests → WaitAfter chains to below behind rests)
-      → AddsTasks (IsEntered chains name waiting trail) old new → AddsTasks (IsTurned chains to below behind trail) old new
-  entered_turned name waiting after =
-      adds_weaker (IsEntered chains name waiting trail) (IsTurned chains to below behind trail) old new (λ next is. record { rests = after next.rests.items is.rests; trail = is.trail })
+  pub entered_turned : (target : Option Target) → target ≡ to → (name : List ℕ) (waiting : List Pending) → ((rests : List Pending) → Enters chains name waiting rests → WaitAfter chains to below behind rests)
+      → AddsTasks (IsEntered chains name waiting trail) old new → AddsTasks (IsTurned chains target below behind trail) old new
+  entered_turned target e name waiting after h =
+      turned_by target e (adds_weaker (IsEntered chains name waiting trail) (IsTurned chains to below behind trail) old new (λ next is. record { rests = after next.rests.items is.rests; trail = is.trail }) h)
 
 -- ---- how they got on
 
@@ -338,10 +329,6 @@ module _ (t : Whole) (scope : Scope) (below : List Pending) (at : Pending) (trai
         there = put.there;
       })))))
 
--- by an answer
-pub answered_on : (t : Whole) (scope : Scope) (rests : List Pending) (trail : List Step) (old new : Front) → AddsTasks (IsAnswered t.needs scope.answers rests trail) old new → AddsTasks (GetsOn t scope rests trail) old new
-answered_on t scope rests trail old new = adds_weaker (IsAnswered t.needs scope.answers rests trail) (GetsOn t scope rests trail) old new (λ next is. inr (inr (inr (inl is))))
-
 -- out of the newest chain
 pub back_on : (t : Whole) (scope : Scope) (rests below : List Pending) (at : Pending) (trail : List Step) (old new : Front) → rests ≡ below ++ at ∷ []
     → AddsTasks (IsPut scope below trail) old new → AddsTasks (GetsOn t scope rests trail) old new
@@ -353,11 +340,10 @@ back_on t scope rests below at trail old new newest =
 pub put_beside : (boxes : List (List SpanSet)) (box : List SpanSet) (answers : List Answer) (scope : Scope) (rests : List Pending) (trail : List Step) (old new : Front) → Contains boxes box
     → scope ≡ record { area = box; answers = answers } → AddsTasks (IsPut scope rests trail) old new → AddsTasks (IsBesides boxes answers rests trail) old new
 put_beside boxes box answers scope rests trail old new on is =
-    let P : List SpanSet → Type 0 = λ b. Contains boxes b in
     adds_weaker (IsPut scope rests trail) (IsBesides boxes answers rests trail) old new
     (λ next put.
     (let same = put.scope ∙ is in
-    record { area = subst P (sym (ap (λ (s : Scope). s.area) same)) on; answers = ap (λ (s : Scope). s.answers) same; there = put.there }))
+    record { area = rw (← ap (λ (s : Scope). s.area) same) at on; answers = ap (λ (s : Scope). s.answers) same; there = put.there }))
 
 -- one of one more answer
 pub put_answered : (needs : List (List (List Need))) (scope : Scope) (answers : List Answer) (answer : Answer) (below : List Pending) (at : Pending) (trail : List Step) (old new : Front)

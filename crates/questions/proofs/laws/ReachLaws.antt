@@ -1,11 +1,11 @@
 -- From exact leaves to what becomes of some packets, and the numbers of leaves on a field.
-use Rattle.std.proofs.Common.{◌≡◌, inl, inr, ℕ, ◌+◌, ◌<◌, ◌≤◌, true, List, [], ◌∷◌, ◌++◌, length, get_or, refl, sym, subst, Option, All, cond, map, ◌∙◌, ap, Some, None}
-use Rattle.std.specs.Prelude.{Any, IfSome}
+use Rattle.std.proofs.Common.{◌≡◌, inl, inr, ℕ, ◌+◌, ◌<◌, ◌≤◌, true, List, [], ◌∷◌, ◌++◌, length, get_or, refl, sym, subst, Option, All, cond, map, ◌∙◌, ap, Some, None, Any, IfSome, eq-eqb, eqb-true}
+use Rattle.std.proofs.lemmas.Option.{same_Some}
 use Rattle.std.proofs.lemmas.List.Elements.{All-push, Contains-append_left, All-contains}
 use Rattle.std.proofs.lemmas.List.Quantifiers.{Any-push, all_pairs_push}
 use Rattle.std.specs.Option.{option_map}
 use Rattle.std.proofs.Math.Dec.{eqb}
-use Rattle.std.proofs.lemmas.Bool.{cond_both, eq-eqb, eqb-true}
+use Rattle.std.proofs.lemmas.Bool.{cond_both}
 use Rattle.fields.specs.declared.numbers.field.Field.{Field}
 use Rattle.fields.specs.numbers.Field.{top, all_fields, index}
 use Rattle.fields.specs.numbers.Spans.{SpanSet, has}
@@ -33,13 +33,6 @@ use Rattle.questions.proofs.laws.PacketLaws.{at_index}
 
 -- ---- The numbers of leaves on a field, leaf after leaf.
 
--- what holds of an element holds of some element
-pub any_here : {X : Type 0} (P : X → Type 0) (xs : List X) (i : ℕ) (x : X) → i < length xs → x ≡ get_or xs i x → P x → Any P xs
-any_here P xs i x lt is h = (i, x, lt, sym is, h)
-
-pub one_has : (leaves : List Leaf) (i : ℕ) (leaf : Leaf) → i < length leaves → leaf ≡ get_or leaves i leaf → Any (HasEnd leaf.verdict (step_of leaf)) leaves
-one_has leaves i leaf lt is = any_here (HasEnd leaf.verdict (step_of leaf)) leaves i leaf lt is (refl, refl)
-
 pub numbers_next : (f : Field) (verdict : Verdict) (by : Option Step) (leaves : List Leaf) (i : ℕ) (leaf : Leaf) (old new : SpanSet) → i < length leaves → leaf ≡ get_or leaves i leaf → IsJoined f verdict by leaf old new
     → ((k : ℕ) (d : Leaf) → k < i → (x : ℕ) → x ≤ top f → GivesNumber f verdict by x (get_or leaves k d) → has old.intervals x ≡ true)
     → ((x : ℕ) → x ≤ top f → has old.intervals x ≡ true → Any (GivesNumber f verdict by x) leaves)
@@ -48,27 +41,19 @@ pub numbers_next : (f : Field) (verdict : Verdict) (by : Option Step) (leaves : 
 numbers_next f verdict by leaves i leaf old new lt is joined all only =
     let P : Leaf → Type 0 = λ l. (x : ℕ) → x ≤ top f → GivesNumber f verdict by x l → has new.intervals x ≡ true in (
       items_next P leaves i leaf lt is (λ k d less x le g. joined.kept x le (all k d less x le g)) joined.added,
-      λ x le on. elim (joined.only x le on) [
-        | inl before ↦ only x le before
-        | inr gives ↦ any_here (GivesNumber f verdict by x) leaves i leaf lt is gives
-      ],
+      λ x le on. elim (joined.only x le on) [ inl before ↦ only x le before | inr gives ↦ (i, leaf, lt, sym is, gives) ],
     )
 
 pub any_left : {X : Type 0} (P : X → Type 0) (xs ys : List X) → Any P xs → Any P (xs ++ ys)
 any_left P xs ys w = (let c = Contains-append_left xs ys w.1 (w.0, w.2, w.3) in (c.0, w.1, c.1, c.2, w.4))
-
--- what is listed stays so
-pub listed_already : (f : Field) (leaves : List Leaf) (leaf : Leaf) (reached : List Reached) → IsListed reached leaf → Lists f leaves leaf reached reached
-listed_already f leaves leaf reached there = record { each = λ some h. h; kept = λ other h. h; added = there; one = λ h. h }
 
 -- a new entry for a leaf
 pub listed_now : (f : Field) (leaves : List Leaf) (leaf : Leaf) (reached : List Reached) (by : Option Step) (set : SpanSet) → by ≡ step_of leaf → IsNumbersOf f leaves leaf.verdict by set → All (λ entry. IsNamed leaf.verdict by entry → ⊥) reached
     → Lists f leaves leaf reached (reached ++ record { verdict = leaf.verdict; by = by; numbers = set } ∷ [])
 listed_now f leaves leaf reached by set is numbers none =
     let entry : Reached = record { verdict = leaf.verdict; by = by; numbers = set } in
-    let P : Option Step → Type 0 = λ o. Any (HasEnd leaf.verdict o) leaves in
     record {
-      each = λ some h. All-push (IsGroup f leaves) reached entry h (record { numbers = numbers; some = subst P (sym is) some });
+      each = λ some h. All-push (IsGroup f leaves) reached entry h (record { numbers = numbers; some = rw (← is) at some });
       kept = λ other h. any_left (IsNamed other.verdict (step_of other)) reached (entry ∷ []) h;
       added = Any-push (IsNamed leaf.verdict (step_of leaf)) reached entry (refl, is);
       one = λ h. all_pairs_push (λ a b. IsNamed b.verdict b.by a → ⊥) reached entry h none;
@@ -92,14 +77,12 @@ module _ (hook : Hook) (box : List SpanSet) (some : HasNumbers box) (f : Field) 
   pick_within : (g : Field) → pick g ≤ top g
   pick_within g =
       let P : ℕ → Type 0 = λ n. n ≤ top g in
-      let Q : Field → Type 0 = λ h. x ≤ top h in
-      cond_both (eqb (index g) (index f)) x (some g).0 P (λ e. subst Q (same_field g e) le) (λ e. (some g).1)
+      cond_both (eqb (index g) (index f)) x (some g).0 P (λ e. rw (same_field g e) at le) (λ e. (some g).1)
 
   pick_allowed : (g : Field) → box_allows box g (pick g) ≡ true
   pick_allowed g =
       let P : ℕ → Type 0 = λ n. box_allows box g n ≡ true in
-      let Q : Field → Type 0 = λ h. box_allows box h x ≡ true in
-      cond_both (eqb (index g) (index f)) x (some g).0 P (λ e. subst Q (same_field g e) on) (λ e. (some g).2)
+      cond_both (eqb (index g) (index f)) x (some g).0 P (λ e. rw (same_field g e) at on) (λ e. (some g).2)
 
   abbrev pub packet_with : Packet
   packet_with = record { hook = hook; values = map pick all_fields }
@@ -179,10 +162,7 @@ module _ (t : Table) (s : IsSound t) (given met : Given) (f : Field) (exact : Li
   same_by None None is e = refl
   same_by None (Some b) is e = absurd (none_some e)
   same_by (Some a) None is e = absurd (none_some (sym e))
-  same_by (Some a) (Some b) is e = ap Some (same_step a b is (some_is e))
-    where
-      some_is : {x y : Entry} → ◌≡◌ {A = Option Entry} (Some x) (Some y) → x ≡ y
-      some_is e = cc
+  same_by (Some a) (Some b) is e = ap Some (same_step a b is (same_Some (entry_of t.chains a) (entry_of t.chains b) e))
 
   pub reach_of : AreExactWalks t met exact → IsReach t given f reached
   reach_of walks = record {

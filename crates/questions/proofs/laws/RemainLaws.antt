@@ -72,17 +72,10 @@ unmet_alike a answers needs i d other holds lt agrees on against =
 
 -- ---- needs that ask no condition with an answer
 
-need_free : (a b : Assignment) (need : Need) → a need.condition ≡ b need.condition → need_holds a need ≡ need_holds b need
-need_free a b need same = ap (λ h. cond need.inverted (not h) h) same
-
 -- one more that asks none
 pub free_more : (answers : List Answer) (left : List Need) (need : Need) → AreFree answers left → IsUnanswered answers need.condition → AreFree answers (left ++ need ∷ [])
 free_more answers left need free un a b agree =
-    list_all-append (need_holds a) left (need ∷ []) ∙ (λ j. free a b agree j && (need_free a b need (agree need.condition un) j && true)) ∙ sym (list_all-append (need_holds b) left (need ∷ []))
-
--- nor does it matter what can't be met
-pub free_never : (answers : List Answer) (need : Need) → AreFree answers (need ∷ record { condition = need.condition; inverted = not need.inverted } ∷ [])
-free_never answers need a b agree = never_both a need ∙ sym (never_both b need)
+    list_all-append (need_holds a) left (need ∷ []) ∙ (λ j. free a b agree j && ((ap (λ h. cond need.inverted (not h) h) (agree need.condition un)) j && true)) ∙ sym (list_all-append (need_holds b) left (need ∷ []))
 
 abbrev Frees : List Answer → Vec Need Global → Type 0
 Frees answers needs = AreFree answers needs.items

@@ -1,13 +1,12 @@
 -- Chains and rules once it is known which conditions hold: each keeps its place or never matches, and without needs nothing changes.
-use Rattle.std.proofs.Common.{◌≡◌, inl, inr, ℕ, Bool, true, false, ◌&&◌, List, refl, ◌∙◌, ap, arith, Some, zero, suc, ◌+◌, ◌-◌, ◌<◌, cond, not, ◌||◌, ◌⊎◌, [], ◌∷◌, length, get_or, drop, sym, subst, None, All, Contains}
-use Rattle.std.specs.Prelude.{nat_le}
+use Rattle.std.proofs.Common.{◌≡◌, inl, inr, ℕ, Bool, true, false, ◌&&◌, List, refl, ◌∙◌, ap, arith, Some, zero, suc, ◌+◌, ◌-◌, ◌<◌, cond, not, ◌||◌, ◌⊎◌, [], ◌∷◌, length, get_or, drop, sym, None, All, Contains, nat_le, true≢false}
 use Rattle.std.specs.Fmt.{digits}
 use Rattle.std.proofs.lemmas.Bool.Decides.{leb_tells}
 use Rattle.std.proofs.lemmas.List.Folds.{list_all_at}
 use Rattle.std.specs.List.{list_any, position, position_or_len}
 use Rattle.std.specs.Str.{bytes_eq}
 use Rattle.std.proofs.Math.Dec.{ltb}
-use Rattle.std.proofs.lemmas.Bool.{cases_Bool, cond-false, cond-true, true≢false}
+use Rattle.std.proofs.lemmas.Bool.{cases_Bool, cond-false, cond-true}
 use Rattle.std.proofs.lemmas.List.{length-map}
 use Rattle.fields.specs.numbers.Field.{all_fields, number_on}
 use Rattle.fields.specs.numbers.Spans.{SpanSet}
@@ -32,7 +31,6 @@ use Rattle.fields.specs.declared.numbers.field.Field.TheVariants as field
 use Rattle.questions.specs.Foreign.{never, AreWithoutNeeds, Assignment, all_hold, needs_at, resolved, resolved_chains, resolved_rule, resolved_rules}
 use Rattle.questions.specs.boxes.Cut.{IsApart}
 use Rattle.questions.specs.Ends.{IsRule, rule_at}
-use Rattle.questions.specs.boxes.Boxes.{rules_in}
 use Rattle.questions.specs.Leaves.{entry_of}
 use Rattle.questions.specs.asked.Laws.{ChainsKeepPlaces}
 use Rattle.questions.specs.declared.foreign.need.Need.{Need}
@@ -84,11 +82,7 @@ resolved_not a needs rule h = cond-false (all_hold a needs) rule never h
 
 -- it is still there, or the one that matches nothing stands in its place
 pub is_or_never : (a : Assignment) (needs : List Need) (rule : Rule) → (resolved_rule a needs rule ≡ rule) ⊎ (resolved_rule a needs rule ≡ never)
-is_or_never a needs rule =
-    elim (cases_Bool (all_hold a needs)) [
-      | inl h ↦ inl (resolved_is a needs rule h)
-      | inr h ↦ inr (resolved_not a needs rule h)
-    ]
+is_or_never a needs rule = elim (cases_Bool (all_hold a needs)) [ inl h ↦ inl (resolved_is a needs rule h) | inr h ↦ inr (resolved_not a needs rule h) ]
 
 -- ---- the rules of a chain
 
@@ -108,10 +102,7 @@ pub rule_there : (needs : List (List Need)) (a : Assignment) (rules : List Rule)
 rule_there needs a rules x (k, lt, is) =
     let within : k < length rules = omega (arith, lt, rules_length needs a rules) in
     let here = rule_resolved needs a rules k x within in
-    elim (is_or_never a (get_or needs k []) (get_or rules k x)) [
-      | inl same ↦ inr (k, within, sym same ∙ sym here ∙ is)
-      | inr gone ↦ inl (sym is ∙ here ∙ gone)
-    ]
+    elim (is_or_never a (get_or needs k []) (get_or rules k x)) [ inl same ↦ inr (k, within, sym same ∙ sym here ∙ is) | inr gone ↦ inl (sym is ∙ here ∙ gone) ]
 
 -- without needs
 rules_stay : (needs : List (List Need)) (a : Assignment) (rules : List Rule) → ((k : ℕ) → get_or needs k [] ≡ []) → resolved_rules a needs rules ≡ rules
@@ -190,10 +181,7 @@ chains_stay (own ∷ needs) a (c ∷ chains) none =
 
 -- without needs it is the table itself, whatever holds
 pub resolved_without_needs : (needs : List (List (List Need))) (a : Assignment) (t : Table) → AreWithoutNeeds needs → resolved needs a t ≡ t
-resolved_without_needs needs a t none = ap (λ (chains : List Chain). with_chains t chains) (chains_stay needs a t.chains none)
-  where
-    with_chains : Table → List Chain → Table
-    with_chains x chains = record { policies = x.policies; chains = chains }
+resolved_without_needs needs a t none = ap (λ (chains : List Chain). record { policies = t.policies; chains = chains }) (chains_stay needs a t.chains none)
 
 -- ---- places
 
@@ -244,13 +232,6 @@ chain_left needs a t place there = record {
   rules = λ k other within. rule_left needs a t place k there within other;
 }
 
--- as many rules
-pub rules_same : (needs : List (List (List Need))) (a : Assignment) (chains : List Chain) → rules_in (resolved_chains a needs chains) ≡ rules_in chains
-rules_same needs a [] = refl
-rules_same [] a (c ∷ chains) = ap (λ (n : ℕ). length c.rules + n) (rules_same [] a chains)
-rules_same (own ∷ needs) a (c ∷ chains) =
-    ap (λ (n : ℕ). n + rules_in (resolved_chains a needs chains)) (rules_length own a c.rules) ∙ ap (λ (n : ℕ). length c.rules + n) (rules_same needs a chains)
-
 -- ---- names
 
 place_or_end : (name : List ℕ) (cs ds : List Chain) → names_of cs ≡ names_of ds → position_or_len (is_named name) cs ≡ position_or_len (is_named name) ds
@@ -274,20 +255,12 @@ same_position name cs ds same =
 -- a rule that matches nothing of a box still matches nothing
 pub resolved_apart : (a : Assignment) (needs : List Need) (rule : Rule) (numbers : List ℕ) → matches numbers rule ≡ false → matches numbers (resolved_rule a needs rule) ≡ false
 resolved_apart a needs rule numbers un =
-    let P : Rule → Type 0 = λ r. matches numbers r ≡ false in
-    elim (is_or_never a needs rule) [
-      | inl same ↦ subst P (sym same) un
-      | inr gone ↦ subst P (sym gone) (never_matches numbers)
-    ]
+    elim (is_or_never a needs rule) [ inl same ↦ rw (← same) at un | inr gone ↦ rw (← gone) at (never_matches numbers) ]
 
 -- one that matches is the rule itself, and all holds that it needs
 pub resolved_matches : (a : Assignment) (needs : List Need) (rule : Rule) (numbers : List ℕ) → matches numbers (resolved_rule a needs rule) ≡ true → resolved_rule a needs rule ≡ rule
 resolved_matches a needs rule numbers m =
-    let P : Rule → Type 0 = λ r. matches numbers r ≡ true in
-    elim (is_or_never a needs rule) [
-      | inl same ↦ same
-      | inr gone ↦ absurd (true≢false (sym (subst P gone m) ∙ never_matches numbers))
-    ]
+    elim (is_or_never a needs rule) [ inl same ↦ same | inr gone ↦ absurd (true≢false (sym (rw gone at m) ∙ never_matches numbers)) ]
 
 -- ---- the rule of a step
 
@@ -316,19 +289,17 @@ entry_left needs a t step =
 -- what it still matches it matched
 pub matched_before : (needs : List (List (List Need))) (a : Assignment) (t : Table) (step : Step) (hook : Hook) (p : Packet) → IsRule t step → IsMatchedAt (resolved needs a t) step hook p → IsMatchedAt t step hook p
 matched_before needs a t step hook p is at =
-    let P : Rule → Type 0 = λ r. matches p.values r ≡ true in
     let own : List Need = needs_at needs step.chain (step.number - 1) in
-    let m : matches p.values (resolved_rule a own (rule_at t step)) ≡ true = subst P (rule_at_left needs a t step is) at.matched in
-    record { can = at.can; there = at.there; matched = subst P (resolved_matches a own (rule_at t step) p.values m) m }
+    let m : matches p.values (resolved_rule a own (rule_at t step)) ≡ true = rw (rule_at_left needs a t step is) at at.matched in
+    record { can = at.can; there = at.there; matched = rw (resolved_matches a own (rule_at t step) p.values m) at m }
 
 -- and then all holds that it needs
 pub held_before : (needs : List (List (List Need))) (a : Assignment) (t : Table) (step : Step) (hook : Hook) (p : Packet) → IsRule t step → IsMatchedAt (resolved needs a t) step hook p → all_hold a (needs_at needs step.chain (step.number - 1)) ≡ true
 held_before needs a t step hook p is at =
-    let P : Rule → Type 0 = λ r. matches p.values r ≡ true in
     let own : List Need = needs_at needs step.chain (step.number - 1) in
     elim (cases_Bool (all_hold a own)) [
       | inl held ↦ held
-      | inr not_held ↦ absurd (true≢false (sym (subst P (rule_at_left needs a t step is ∙ resolved_not a own (rule_at t step) not_held) at.matched) ∙ never_matches p.values))
+      | inr not_held ↦ absurd (true≢false (sym (rw (rule_at_left needs a t step is ∙ resolved_not a own (rule_at t step) not_held) at at.matched) ∙ never_matches p.values))
     ]
 
 -- a rule that is still there was there

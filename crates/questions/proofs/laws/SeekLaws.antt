@@ -1,11 +1,11 @@
 -- Packets of scopes that are parted, and ways that take their packets over.
-use Rattle.std.proofs.Common.{◌≡◌, ◌⊎◌, inl, inr, ℕ, zero, suc, ◌+◌, ◌-◌, ◌<◌, ◌≤◌, Bool, true, false, not, cond, List, [], ◌∷◌, ◌++◌, length, get_or, map, refl, sym, ◌∙◌, ap, arith, subst, Option, Some, None, Contains, IsTrue}
+use Rattle.std.proofs.Common.{◌≡◌, ◌⊎◌, inl, inr, ℕ, zero, suc, ◌+◌, ◌-◌, ◌<◌, ◌≤◌, Bool, true, false, not, cond, List, [], ◌∷◌, ◌++◌, length, get_or, map, refl, sym, ◌∙◌, ap, arith, subst, Option, Some, None, Contains, IsTrue, All}
 use Rattle.std.specs.Prelude.{Any, IfSome, option_and_then, slice_get}
 use Rattle.std.specs.List.{position}
 use Rattle.std.proofs.lemmas.Bool.{cases_Bool, cases_lt, true≢false}
-use Rattle.std.proofs.lemmas.List.Elements.{All-contains, All-pop, All-push, Contains-get_or, Contains-push_cases}
+use Rattle.std.proofs.lemmas.List.Elements.{All-append, All-push, Contains-get_or, Contains-push_cases}
 use Rattle.std.proofs.lemmas.List.Sums.{list_all-from_AllPass}
-use Rattle.std.proofs.lemmas.Option.{get_or_from_slice_get, slice_get-get_or}
+use Rattle.std.proofs.lemmas.Option.{get_or_from_slice_get, same_Some, slice_get-get_or}
 use Rattle.fields.specs.numbers.Spans.{SpanSet}
 use Rattle.fields.specs.Packet.{PacketView as Packet}
 use Rattle.classify.specs.Classifier.{IsPoint}
@@ -26,8 +26,8 @@ use Rattle.table.proofs.laws.chains.KeepLaws.{rules_by_name as named_rules}
 use Rattle.questions.specs.Ends.{IsRule, rule_at}
 use Rattle.questions.specs.Foreign.{Agrees, Assignment, all_hold, need_holds, needs_at, resolved, resolved_rule}
 use Rattle.questions.specs.Leaves.{entry_of, name_at}
-use Rattle.questions.specs.Scopes.{answered, table_of, whole_of}
-use Rattle.questions.specs.asked.Always.{IsAlwaysDeadAt}
+use Rattle.questions.specs.Scopes.{Whole, answered, table_of, whole_of}
+use Rattle.questions.specs.asked.Always.{IsAlwaysDeadIn}
 use Rattle.questions.specs.asked.Unclear.{HaveAll}
 use Rattle.questions.specs.boxes.Boxes.{Has, IsAtHook, IsBoth, IsIn}
 use Rattle.questions.specs.boxes.Cut.{IsCut, IsInSome, IsPartedFor}
@@ -36,20 +36,21 @@ use Rattle.questions.specs.declared.foreign.need.Need.{Need}
 use Rattle.questions.specs.declared.foreign.subject.Subject.{Subject}
 use Rattle.questions.specs.declared.walking.scope.Scope.{Scope}
 use Rattle.questions.specs.steps.Answered.{IsMeeting, MeetsNever}
-use Rattle.questions.specs.steps.Takers.{IsScopeAt, needs_of, IsMatchedAt}
-use Rattle.questions.specs.steps.Seeking.{AddsBoxes, AddsParts, AllMatch, IsHere, IsLeftIn, IsSameScope, AllWant, AreAllWays, EndsAt, IsAheadOn, IsPlaceOf, IsTakenBy, KeepsIn, KeepsWanted, LeadsAwayAt, MayCome, NoneAheadTakesOut, TakesBy, TakesOver, chains_of, top_of}
+use Rattle.questions.specs.steps.Takers.{needs_of}
+use Rattle.questions.specs.steps.Seeking.{AddsBoxes, AddsParts, AddsWays, AllMatch, AreAllWays, EndsAt, IsAheadOn, IsHere, IsLeftIn, IsPlaceOf, IsSameScope, IsTakenBy, KeepsIn, KeepsWanted, LeadsAwayAt, LiesIn, MayCome, NoneAheadTakesOut, TakesBy, TakesOver, TakesPlace, chains_of, top_of}
 use Rattle.questions.specs.steps.Tried.{TakesOn}
-use Rattle.questions.specs.steps.Straying.{Hits, IsLedAway, IsOpenWay, LeadsAway, TakesOut, place_at, Decides}
+use Rattle.questions.specs.steps.Straying.{Hits, IsLedAway, IsOpenWay, TakesOut, place_at, Decides}
 use Rattle.questions.specs.boxes.Calls.{AreCalls, place_named}
 use Rattle.questions.specs.declared.seeking.calls.Call.{Call}
 use Rattle.questions.specs.declared.seeking.way.Way.{Way}
-use Rattle.questions.proofs.laws.AnswerLaws.{agrees_with_one_more, one_holds}
+use Rattle.questions.proofs.laws.AnswerLaws.{agrees_with_one_more}
 use Rattle.questions.proofs.laws.AreaLaws.{has_of_rule, some_left}
 use Rattle.questions.proofs.laws.WayLaws.{listed, own_position}
-use Rattle.questions.proofs.laws.TrailLaws.{none_some, rule_of_entry, rules_there, IsMatched, one_place, rule_matches, trail_matches}
-use Rattle.questions.proofs.laws.ResolvedLaws.{never_matches, chain_left, held_before, length_same, matched_before, resolved_is, resolved_matches, chain_named, resolved_not, rule_back}
+use Rattle.questions.proofs.laws.TrailLaws.{none_some, rule_of_entry, rules_there, one_place}
+use Rattle.questions.proofs.laws.ResolvedLaws.{never_matches, chain_left, length_same, resolved_is, resolved_matches, chain_named, resolved_not, rule_back}
 use Rattle.questions.proofs.laws.ForeignLaws.{left_sound}
 use Rattle.questions.proofs.laws.StrayLaws.{comes_by_way}
+use Rattle.questions.proofs.laws.TakerLaws.{met_on}
 use Rattle.questions.proofs.laws.WaitLaws.{any_kept, any_last, named_first}
 
 -- the numbers of a packet that can be at its hook
@@ -90,9 +91,7 @@ parts_failing need scope part area old new same is answers e = record {
     failing : (a : Assignment) (p : Packet) → IsAtHook p → IsHere a p scope → need_holds a need ≡ false → IsHere a p part
     failing a p at here un =
         let value : a need.condition ≡ need.inverted = fails_as need.inverted (a need.condition) un in
-        let P : List Answer → Type 0 = λ given. Agrees a given in
-        let Q : List SpanSet → Type 0 = λ box. IsIn box p in
-        (subst Q (sym is) (same.all p.values (point_of p at) here.0 here.0), subst P (sym answers) (agrees_with_one_more a scope.answers need.condition need.inverted here.1 value))
+        (rw (← is) at (same.all p.values (point_of p at) here.0 here.0), rw (← answers) at (agrees_with_one_more a scope.answers need.condition need.inverted here.1 value))
 
 -- where a need is known to fail, the whole scope
 pub parts_copied : (Other : Assignment → Packet → Type 0) (scope copy : Scope) (old new : List Scope) → IsSameScope scope copy → new ≡ old ++ copy ∷ [] → AddsParts scope Other old new
@@ -128,11 +127,6 @@ parts_weaker scope P Q old new more parts = record {
 abbrev pub HoldBelow : List Need → ℕ → Assignment → Packet → Type 0
 HoldBelow needs count a p = (k : ℕ) (d : Need) → k < count → need_holds a (get_or needs k d) ≡ true
 
-pub hold_next : (needs : List Need) (count : ℕ) (need : Need) → count < length needs → need ≡ get_or needs count need → (a : Assignment) (p : Packet) → HoldBelow needs count a p → IsTrue (need_holds a need) → HoldBelow needs (count + 1) a p
-hold_next needs count need within is a p below here =
-    let P : Need → Type 0 = λ n. IsTrue (need_holds a n) in
-    one_holds a needs count need within below (subst P is here)
-
 pub all_below : (needs : List Need) (count : ℕ) → length needs ≤ count → (a : Assignment) (p : Packet) → HoldBelow needs count a p → IsTrue (all_hold a needs)
 all_below needs count all a p below = list_all-from_AllPass (need_holds a) needs (λ k d lt. below k d (omega (arith, lt, all)))
 
@@ -143,11 +137,9 @@ pub boxes_next : (answers : List Answer) (boxes left : List (List SpanSet)) (sco
     → (a : Assignment) (p : Packet) → Agrees a answers → IsInSome boxes p.values ⊎ Any (IsHere a p) old → IsInSome left p.values ⊎ Any (IsHere a p) new
 boxes_next answers boxes left scope own old new e is same more a p agrees (inr before) = inr (any_kept (IsHere a p) old (scope ∷ []) new more before)
 boxes_next answers boxes left scope own old new e is same more a p agrees (inl there) =
-    let P : List Answer → Type 0 = λ given. Agrees a given in
-    let Q : List SpanSet → Type 0 = λ box. IsIn box p in
     elim (some_left boxes left own p.values e there) [
       | inl still ↦ inl still
-      | inr here ↦ inr (any_last (IsHere a p) old scope new more (subst Q (sym is) here, subst P (sym same) agrees))
+      | inr here ↦ inr (any_last (IsHere a p) old scope new more (rw (← is) at here, rw (← same) at agrees))
     ]
 
 -- ---- a scope that a rule splits
@@ -160,14 +152,8 @@ pub split_apart : (rule : Rule) (needs : List Need) (scope whole : Scope) (old m
     → AddsParts scope (IsLeftIn rule needs None) old new
 split_apart rule needs scope whole old mid new met area answers e = record {
   kept = λ a p h. any_kept (IsHere a p) mid (whole ∷ []) new e (met.kept a p h);
-  parted = λ a p at here. inl (any_last (IsHere a p) mid whole new e (moved a p here));
+  parted = λ a p at here. inl (any_last (IsHere a p) mid whole new e (rw area at here.0, rw answers at here.1));
 }
-  where
-    moved : (a : Assignment) (p : Packet) → IsHere a p scope → IsHere a p whole
-    moved a p here =
-        let P : List Answer → Type 0 = λ given. Agrees a given in
-        let Q : List SpanSet → Type 0 = λ box. IsIn box p in
-        (subst Q area here.0, subst P answers here.1)
 
 pub split_ports : (rule : Rule) (needs : List Need) (scope : Scope) (again others : List (List SpanSet)) (old mid some new : List Scope) → IsPartedFor rule scope.area again others → AddsParts scope (NeedsMet needs) old mid
     → AddsBoxes others scope.answers mid some → AddsBoxes again scope.answers some new → AddsParts scope (IsLeftIn rule needs None) old new
@@ -226,9 +212,6 @@ parts_matching rule scope boxes old new inside adds = record {
   ];
 }
 
-pub met_with_none : (rule : Rule) (needs : List Need) (answers : List Answer) → MeetsNever needs answers → (a : Assignment) → Agrees a answers → IsTrue (all_hold a needs) → ⊥
-met_with_none rule needs answers none a agrees held = true≢false (sym held ∙ none a agrees)
-
 pub met_with_some : (rule : Rule) (box : List SpanSet) (needs : List Need) (scope : Scope) (area : List SpanSet) (answers : List Answer) → IsBoxOf rule box → IsBoth scope.area box area → IsMeeting needs scope.answers answers
     → (a : Assignment) (p : Packet) → IsAtHook p → IsHere a p scope → matches p.values rule ≡ true → IsTrue (all_hold a needs) → IsIn area p × Agrees a answers
 met_with_some rule box needs scope area answers boxed both more a p at here m held =
@@ -238,14 +221,10 @@ met_with_some rule box needs scope area answers boxed both more a p at here m he
 
 pub top_is_last : (wanted : Step) (places : List Step) (place : Step) → slice_get places (length places - 1) ≡ Some place → top_of wanted places ≡ place
 top_is_last wanted [] place e = absurd (none_some e)
-top_is_last wanted (x ∷ []) place e = some_same x place e
-  where
-    some_same : (a b : Step) → ◌≡◌ {A = Option Step} (Some a) (Some b) → a ≡ b
-    some_same a b e = cc
+top_is_last wanted (x ∷ []) place e = same_Some x place e
 top_is_last wanted (x ∷ y ∷ ys) place e =
-    let P : ℕ → Type 0 = λ k. slice_get (x ∷ y ∷ ys) k ≡ Some place in
     let k : length (x ∷ y ∷ ys) - 1 ≡ suc (length (y ∷ ys) - 1) = omega arith in
-    top_is_last x (y ∷ ys) place (subst P k e)
+    top_is_last x (y ∷ ys) place (rw k at e)
 
 -- ---- a way by one more place
 
@@ -276,10 +255,9 @@ matched_there s a values by o sound is h =
     named_rules (resolved needs a t) (chain_at (resolved needs a t) by.chain) (left_sound needs a t sound) (Contains-get_or (chains_of s a) by.chain (empty_chain []) there) in
     let here : slice_get (chain_at (resolved needs a t) by.chain).rules (by.number - 1) ≡ Some h.0 = ap (λ (rules : List Rule). slice_get rules (by.number - 1)) (sym by_name) ∙ h.1 in
     let is_rule : h.0 ≡ resolved_rule a own rule = sym (get_or_from_slice_get (chain_at (resolved needs a t) by.chain).rules (by.number - 1) h.0 empty_rule here) ∙ left.rules (by.number - 1) empty_rule within in
-    let P : Rule → Type 0 = λ r. matches values r ≡ true in
-    let m : matches values (resolved_rule a own rule) ≡ true = subst P is_rule h.2 in
+    let m : matches values (resolved_rule a own rule) ≡ true = rw is_rule at h.2 in
     let same : resolved_rule a own rule ≡ rule = resolved_matches a own rule values m in
-    (subst P same m, held own rule m, ap target_of (sym (is_rule ∙ same)) ∙ h.3)
+    (rw same at m, held own rule m, ap target_of (sym (is_rule ∙ same)) ∙ h.3)
   where
     held : (own : List Need) (rule : Rule) → matches values (resolved_rule a own rule) ≡ true → IsTrue (all_hold a own)
     held own rule m = elim (cases_Bool (all_hold a own)) [
@@ -313,9 +291,7 @@ none_leaves_next s by ahead count a p chain number before here k o low high h l 
           let cs = chains_of s a in
           let e : k ≡ ahead.number - 1 = omega (arith, le, high, number) in
           let P : ℕ → ℕ → Type 0 = λ c n. Hits cs p.values (record { chain = name_at cs c; passed = n }) o in
-          let Q : ℕ → Type 0 = λ n. P by.chain n in
-          let R : ℕ → Type 0 = λ c. P c (ahead.number - 1) in
-          here o (subst R (sym chain) (subst Q e h)) l)
+          here o (rw (← chain) at (rw e at h)) l)
     ]
 
 -- of the last so many calls those are taken over that name a chain
@@ -327,8 +303,7 @@ AreTakenFrom s way chain calls before ways =
 pub one_wanted : (way more : Way) (old new : List Way) → more.wanted ≡ way.wanted → new ≡ old ++ more ∷ [] → KeepsWanted way old new
 one_wanted way more old new same e step is all =
     let P : Way → Type 0 = λ w. w.wanted ≡ step in
-    let Q : List Way → Type 0 = λ ways. AllWant step ways in
-    subst Q (sym e) (All-push P old more all (same ∙ is))
+    rw (← e) at (All-push P old more all (same ∙ is))
 
 module _ (s : Subject) (sound : IsSound (table_of s)) where
   -- a way without its places begins at its top
@@ -349,13 +324,10 @@ module _ (s : Subject) (sound : IsSound (table_of s)) where
         (let cs = chains_of s a in
         let hit = way_at cs p.values (hook_name p.hook) (name_at cs way.wanted.chain) (steps_at cs way.places.items) (place_at cs by) above leads in
         let m = matched_there s a p.values by hit.0 sound is hit.1 in
-        let P : Step → Type 0 = λ w. IsLedAway cs p.values (place_at cs w) → ⊥ in
-        let Q : Step → Type 0 = λ w. IsOpenWay cs p.values (hook_name p.hook) (name_at cs w.chain) (steps_at cs more.places.items ++ above) in
-        let R : List Rest → Type 0 = λ rests. IsOpenWay cs p.values (hook_name p.hook) (name_at cs way.wanted.chain) rests in
         let same : steps_at cs more.places.items ++ above ≡ steps_at cs way.places.items ++ place_at cs by ∷ above =
         ap (λ (ps : List Step). steps_at cs ps ++ above) places ∙ map_more cs way.places.items by above in
         any_last (MayCome s a p) old more new e
-        (record { here = here a p at own (m.0, m.1); free = subst P (sym wanted) free; above = above; leads = subst Q (sym wanted) (subst R (sym same) leads) }));
+        (record { here = here a p at own (m.0, m.1); free = rw (← wanted) at free; above = above; leads = rw (← wanted) at (rw (← same) at leads) }));
     wanted = one_wanted way more old new wanted e;
   }
 
@@ -409,37 +381,31 @@ module _ (s : Subject) (sound : IsSound (table_of s)) where
   -- ---- what the rules of a way match
 
   hits_at : (chains : List Chain) (values first chain : List ℕ) (places : List Step) (above : List Rest) (k : ℕ) (place : Step) → k < length places → get_or places k place ≡ place
-      → IsOpenWay chains values first chain (steps_at chains places ++ above) → (o : Option Target) × Hits chains values (place_at chains place) o
+      → IsOpenWay chains values first chain (steps_at chains places ++ above) → ((o : Option Target) × Hits chains values (place_at chains place) o) × (IsLedAway chains values (place_at chains place) → ⊥)
   hits_at chains values first chain [] above k place lt is way = absurd (omega (arith, lt))
-  hits_at chains values first chain (x ∷ places) above zero place lt is way = let P : Step → Type 0 = λ w. (o : Option Target) × Hits chains values (place_at chains w) o in subst P is (way.0, way.1)
+  hits_at chains values first chain (x ∷ places) above zero place lt is way =
+      let P : Step → Type 0 = λ w. ((o : Option Target) × Hits chains values (place_at chains w) o) × (IsLedAway chains values (place_at chains w) → ⊥) in subst P is ((way.0, way.1), way.3)
   hits_at chains values first chain (x ∷ places) above (suc k) place lt is way = hits_at chains values first (name_at chains x.chain) places above k place (omega (arith, lt)) is way.4
 
   -- they match each packet that comes by it
   pub all_match : (a : Assignment) (p : Packet) (way : Way) → matches p.values (rule_at own_table way.wanted) ≡ true → MayCome s a p way → AllMatch own_table p way
   all_match a p way own may place (inl same) is = let P : Step → Type 0 = λ w. matches p.values (rule_at own_table w) ≡ true in subst P (sym same) own
   all_match a p way own may place (inr c) is =
-      let hit = hits_at (chains_of s a) p.values (hook_name p.hook) (name_at (chains_of s a) way.wanted.chain) way.places.items may.above c.0 place c.1 c.2 may.leads in
+      let hit = (hits_at (chains_of s a) p.values (hook_name p.hook) (name_at (chains_of s a) way.wanted.chain) way.places.items may.above c.0 place c.1 c.2 may.leads).0 in
       (matched_there s a p.values place hit.0 sound is hit.1).0
 
   -- ---- what leads away on a way
 
-  open_at : (chains : List Chain) (values first chain : List ℕ) (places : List Step) (above : List Rest) (k : ℕ) (place : Step) → k < length places → get_or places k place ≡ place
-      → IsOpenWay chains values first chain (steps_at chains places ++ above) → IsLedAway chains values (place_at chains place) → ⊥
-  open_at chains values first chain [] above k place lt is way led = omega (arith, lt)
-  open_at chains values first chain (x ∷ places) above zero place lt is way led = let P : Step → Type 0 = λ w. IsLedAway chains values (place_at chains w) in way.3 (subst P (sym is) led)
-  open_at chains values first chain (x ∷ places) above (suc k) place lt is way led = open_at chains values first (name_at chains x.chain) places above k place (omega (arith, lt)) is way.4 led
-
   pub never_led : (a : Assignment) (p : Packet) (way : Way) (place : Step) → MayCome s a p way → IsPlaceOf way place → IsLedAway (chains_of s a) p.values (place_at (chains_of s a) place) → ⊥
   never_led a p way place may (inl own) led = let P : Step → Type 0 = λ w. IsLedAway (chains_of s a) p.values (place_at (chains_of s a) w) in may.free (subst P own led)
   never_led a p way place may (inr c) led =
-      open_at (chains_of s a) p.values (hook_name p.hook) (name_at (chains_of s a) way.wanted.chain) way.places.items may.above c.0 place c.1 c.2 may.leads led
+      (hits_at (chains_of s a) p.values (hook_name p.hook) (name_at (chains_of s a) way.wanted.chain) way.places.items may.above c.0 place c.1 c.2 may.leads).1 led
 
   -- a rule ahead on a way leads no packet away that comes by it
   pub not_away : (a : Assignment) (p : Packet) (way : Way) (by place : Step) → 0 < by.number → IsAheadOn way by place → MayCome s a p way → LeadsAwayAt s by a p → ⊥
   not_away a p way by place first ahead may away =
       let cs = chains_of s a in
-      let P : ℕ → Type 0 = λ c. LeadsAway cs p.values (record { chain = name_at cs c; passed = by.number - 1 }) in
-      never_led a p way place may ahead.own (by.number - 1, omega (arith, first, ahead.ahead), subst P ahead.chain away)
+      never_led a p way place may ahead.own (by.number - 1, omega (arith, first, ahead.ahead), rw ahead.chain at away)
 
   -- ---- rules that take packets out of a chain
 
@@ -514,19 +480,15 @@ module _ (s : Subject) (sound : IsSound (table_of s)) where
 
   -- ---- all rules that enter the chain in which a way begins
 
-  still_taken : (way : Way) (by : Step) (old new : List Way) → ((a : Assignment) (p : Packet) → Any (MayCome s a p) old → Any (MayCome s a p) new) → IsTakenBy s way by old → IsTakenBy s way by new
-  still_taken way by old new kept taken a p above at is here free leads = kept a p (taken a p above at is here free leads)
-
   pub taken_next : (way : Way) (chain : ℕ) (calls : List Call) (before : ℕ) (old new : List Way) → before < length calls → ((a : Assignment) (p : Packet) → Any (MayCome s a p) old → Any (MayCome s a p) new)
       → ((d : Call) → (get_or calls (length calls - 1 - before) d).to ≡ chain → IsTakenBy s way (get_or calls (length calls - 1 - before) d).by new)
       → AreTakenFrom s way chain calls before old → AreTakenFrom s way chain calls (before + 1) new
   taken_next way chain calls before old new within kept here after k d lt le to =
       elim (cases_lt (length calls - 1 - before) k) [
-        | inl past ↦ still_taken way (get_or calls k d).by old new kept (after k d lt (omega (arith, past, within)) to)
+        | inl past ↦ λ a p above at is here free leads. kept a p ((after k d lt (omega (arith, past, within)) to) a p above at is here free leads)
         | inr not ↦ (
             let e : k ≡ length calls - 1 - before = omega (arith, not, le, within) in
-            let P : ℕ → Type 0 = λ j. (get_or calls j d).to ≡ chain → IsTakenBy s way (get_or calls j d).by new in
-            subst P (sym e) (here d) to)
+            (rw (← e) at (here d)) to)
       ]
 
   -- a call that is listed is by the rule
@@ -570,8 +532,7 @@ module _ (s : Subject) (sound : IsSound (table_of s)) where
 
 any_left : {X : Type 0} (P : X → Type 0) (xs ys : List X) (x : X) → xs ≡ ys ++ x ∷ [] → Any P xs → Any P ys ⊎ P x
 any_left {X} P xs ys x e any =
-    let Q : List X → Type 0 = λ l. Contains l any.1 in
-    elim (Contains-push_cases ys x any.1 (subst Q e (any.0, any.2, any.3))) [
+    elim (Contains-push_cases ys x any.1 (rw (← e) (any.0, any.2, any.3))) [
       | inl c ↦ inl (c.0, any.1, c.1, c.2, any.4)
       | inr same ↦ inr (subst P (sym same) any.4)
     ]
@@ -581,14 +542,10 @@ pub scopes_next : (s : Subject) (a : Assignment) (p : Packet) (way more : Way) (
 scopes_next s a p way more scopes left scope old new e wanted is places added may (inr before) = inr (any_kept (MayCome s a p) old (more ∷ []) new added before)
 scopes_next s a p way more scopes left scope old new e wanted is places added may (inl there) =
     let cs = chains_of s a in
-    let P : Step → Type 0 = λ w. IsLedAway cs p.values (place_at cs w) → ⊥ in
-    let Q : Step → Type 0 = λ w. IsOpenWay cs p.values (hook_name p.hook) (name_at cs w.chain) (map (place_at cs) more.places.items ++ may.above) in
-    let R : List Step → Type 0 = λ ps. IsOpenWay cs p.values (hook_name p.hook) (name_at cs way.wanted.chain) (map (place_at cs) ps ++ may.above) in
-    let S : Scope → Type 0 = λ x. IsHere a p x in
     elim (any_left (IsHere a p) scopes left scope e there) [
       | inl still ↦ inl still
       | inr here ↦ inr (any_last (MayCome s a p) old more new added
-          (record { here = subst S (sym is) here; free = subst P (sym wanted) may.free; above = may.above; leads = subst Q (sym wanted) (subst R (sym places) may.leads) }))
+          (record { here = rw (← is) at here; free = rw (← wanted) at may.free; above = may.above; leads = rw (← wanted) at (rw (← places) at may.leads) }))
     ]
 
 -- a rule with more packets left
@@ -603,53 +560,50 @@ pub at_first : (P : Step → Type 0) (path : List Step) (by : Step) → slice_ge
 at_first P path by e h = let Q : Option Step → Type 0 = λ o. IfSome o P in subst Q (sym e) h
 
 -- where no way is left, no packet comes
-pub none_comes : (s : Subject) (step : Step) (hook : Hook) (ways : List Way) → length ways ≡ 0 → AreAllWays s step hook ways → IsAlwaysDeadAt s step hook
-none_comes s step hook ways none all a p at there on = let any = all a p at there on in omega (arith, any.2, none)
+pub none_comes : (s : Subject) (start : Scope) (step : Step) (hook : Hook) (ways : List Way) → length ways ≡ 0 → AreAllWays s start step hook ways → IsAlwaysDeadIn s step hook start
+none_comes s start step hook ways none all a p at there here on = let any = all a p at there here on in omega (arith, any.2, none)
 
 -- a packet that may come by a way is one of that way's
-pub have_all : (s : Subject) (step : Step) (hook : Hook) (ways : List Way) → AreAllWays s step hook ways → HaveAll (whole_of s) step hook ways
-have_all s step hook ways all a p at there on = let (k, way, lt, is, may) = all a p at there on in (k, way, lt, is, may.here)
+pub have_all : (s : Subject) (start : Scope) (step : Step) (hook : Hook) (ways : List Way) → AreAllWays s start step hook ways → HaveAll (whole_of s) start step hook ways
+have_all s start step hook ways all a p at there here on = let (k, way, lt, is, may) = all a p at there here on in (k, way, lt, is, may.here)
+
+-- what holds of each packet of a scope that the rule matches, where all holds that it needs
+abbrev pub OfEachMatched : Subject → Scope → Step → (Assignment → Packet → Type 0) → Type 0
+OfEachMatched s start step Holds =
+    (a : Assignment) (p : Packet) → IsAtHook p → IsHere a p start → matches p.values (rule_at (table_of s) step) ≡ true → IsTrue (all_hold a (needs_of s.needs.now step)) → Holds a p
 
 -- the first way has each packet that comes
-pub first_way : (s : Subject) (step : Step) (hook : Hook) (first : Way) (ways : List Way) → IsSound (table_of s) → IsRule (table_of s) step → first.wanted ≡ step → IsScopeAt (table_of s) s.needs.now step hook first.scope
-    → first.places.items ≡ [] → ways ≡ first ∷ [] → AreAllWays s step hook ways
-first_way s step hook first ways sound is wanted scope places e a p at there on =
-    let t = answered s a in
+pub first_way : (s : Subject) (start : Scope) (step : Step) (hook : Hook) (first : Way) (ways : List Way) → IsSound (table_of s) → IsRule (table_of s) step → first.wanted ≡ step → OfEachMatched s start step (λ a p. IsHere a p first.scope)
+    → first.places.items ≡ [] → ways ≡ first ∷ [] → AreAllWays s start step hook ways
+first_way s start step hook first ways sound is wanted let_on places e a p at there here on =
     let cs = chains_of s a in
-    let way = comes_by_way t p (entry_of cs step) on in
-    let left = left_sound s.needs.now a (table_of s) sound in
-    let rule : IsRule t step = rule_of_entry t p step left (All-contains (IsMatched cs p.values) (walk t p).trail (entry_of cs step) (trail_matches t p) on) in
-    let m : matches p.values (rule_at t step) ≡ true = rule_matches t p step left rule on in
-    let own : IsMatchedAt t step hook p = record { can = at; there = there; matched = m } in
-    let before = matched_before s.needs.now a (table_of s) step hook p is own in
-    let held = held_before s.needs.now a (table_of s) step hook p is own in
-    let P : List SpanSet → Type 0 = λ box. IsIn box p in
-    let inside : IsIn first.scope.area p = subst P scope.2 (scope.1.all p before) in
-    let agrees : Agrees a first.scope.answers = scope.3.all a (λ k d lt. absurd (omega (arith, lt))) held in
+    let way = comes_by_way (answered s a) p (entry_of cs step) on in
+    let met = met_on s a p step hook sound is at there on in
     let Q : Step → Type 0 = λ w. IsLedAway cs p.values (place_at cs w) → ⊥ in
     let R : Step → Type 0 = λ w. IsOpenWay cs p.values (hook_name p.hook) (name_at cs w.chain) (map (place_at cs) first.places.items ++ way.0.0) in
     let S : List Step → Type 0 = λ ps. IsOpenWay cs p.values (hook_name p.hook) (name_at cs step.chain) (map (place_at cs) ps ++ way.0.0) in
     any_last (MayCome s a p) [] first ways e
-    (record { here = (inside, agrees); free = subst Q (sym wanted) way.1; above = way.0.0; leads = subst R (sym wanted) (subst S (sym places) way.0.1) })
+    (record { here = let_on a p at here met.matched.matched met.held; free = subst Q (sym wanted) way.1; above = way.0.0; leads = subst R (sym wanted) (subst S (sym places) way.0.1) })
 
--- and there is none where no assignment meets what the rule needs
-pub never_meets : (s : Subject) (step : Step) (hook : Hook) → IsSound (table_of s) → IsRule (table_of s) step → MeetsNever (needs_of s.needs.now step) [] → IsAlwaysDeadAt s step hook
-never_meets s step hook sound is none a p at there on =
-    let t = answered s a in
-    let cs = chains_of s a in
-    let left = left_sound s.needs.now a (table_of s) sound in
-    let rule : IsRule t step = rule_of_entry t p step left (All-contains (IsMatched cs p.values) (walk t p).trail (entry_of cs step) (trail_matches t p) on) in
-    let own : IsMatchedAt t step hook p = record { can = at; there = there; matched = rule_matches t p step left rule on } in
-    true≢false (sym (held_before s.needs.now a (table_of s) step hook p is own) ∙ none a (λ k d lt. absurd (omega (arith, lt))))
+-- and where there is none, no packet comes
+pub none_matched : (s : Subject) (start : Scope) (step : Step) (hook : Hook) → IsSound (table_of s) → IsRule (table_of s) step → OfEachMatched s start step (λ a p. ⊥) → IsAlwaysDeadIn s step hook start
+none_matched s start step hook sound is none a p at there here on = let met = met_on s a p step hook sound is at there on in none a p at here met.matched.matched met.held
 
--- the last of some ways
-pub last_wanted : (step : Step) (ways left : List Way) (way : Way) → ways ≡ left ++ way ∷ [] → AllWant step ways → AllWant step left × (way.wanted ≡ step)
-last_wanted step ways left way e all = All-pop (λ (w : Way). w.wanted ≡ step) ways left (Some way) e all
+-- what takes the place of a way lies in the scope in which that lies
+pub lies_in_place : (t : Whole) (start : Scope) (way next : Way) → LiesIn start way.scope → TakesPlace t way next → LiesIn start next.scope
+lies_in_place t start way next inside (inl longer) numbers is has = inside numbers is (longer.scope.area.first numbers is has)
+lies_in_place t start way next inside (inr part) numbers is has = inside numbers is (part.less.inside numbers is has)
 
-pub next_ways : (s : Subject) (step : Step) (hook : Hook) (way : Way) (ways left new : List Way) → ways ≡ left ++ way ∷ [] → way.wanted ≡ step → TakesOn s hook way left new → AreAllWays s step hook ways → AreAllWays s step hook new
-next_ways s step hook way ways left new e wanted tried all a p at there on =
+pub lie_next : (t : Whole) (start : Scope) (way : Way) (left new : List Way) → LiesIn start way.scope → All (λ (w : Way). LiesIn start w.scope) left → AddsWays (TakesPlace t way) left new → All (λ (w : Way). LiesIn start w.scope) new
+lie_next t start way left new inside all (more, e, each) =
+    let Lies : Way → Type 0 = λ w. LiesIn start w.scope in
+    rw (← e) at (All-append Lies left more all (λ k d lt. lies_in_place t start way (get_or more k d) inside (each k d lt)))
+
+pub next_ways : (s : Subject) (start : Scope) (step : Step) (hook : Hook) (way : Way) (ways left new : List Way) → ways ≡ left ++ way ∷ [] → way.wanted ≡ step → TakesOn s hook way left new → AreAllWays s start step hook ways
+    → AreAllWays s start step hook new
+next_ways s start step hook way ways left new e wanted tried all a p at there here on =
     let On : Step → Type 0 = λ w. Contains (walk (answered s a) p).trail (entry_of (answered s a).chains w) in
-    elim (any_left (MayCome s a p) ways left way e (all a p at there on)) [
+    elim (any_left (MayCome s a p) ways left way e (all a p at there here on)) [
       | inl before ↦ tried.kept a p before
       | inr may ↦ tried.taken a p at there (subst On (sym wanted) on) may
     ]

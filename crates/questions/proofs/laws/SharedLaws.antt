@@ -1,12 +1,11 @@
 -- Chains of one name beside each other, the rules that both have, and the rules that aren't paired.
-use Rattle.std.proofs.Common.{◌≡◌, ◌≢◌, inl, inr, ℕ, zero, suc, ◌+◌, ◌-◌, ◌<◌, Bool, true, false, List, [], ◌∷◌, ◌++◌, cond, length, get_or, refl, sym, ◌∙◌, ap, ap₂, arith, subst, Option, Some, None, Contains}
-use Rattle.std.specs.Prelude.{All, Any, IsFalse, IsTrue, slice_get}
+use Rattle.std.proofs.Common.{◌≡◌, ◌≢◌, inl, inr, ℕ, zero, suc, ◌+◌, ◌-◌, ◌<◌, Bool, true, false, List, [], ◌∷◌, ◌++◌, cond, length, get_or, refl, sym, ◌∙◌, ap, ap₂, arith, subst, Option, Some, None, Contains, All, Any, IsFalse, IsTrue, slice_get, true≢false, length-append}
 use Rattle.std.specs.List.{AllByRecursion}
 use Rattle.std.specs.Str.{bytes_eq}
-use Rattle.std.proofs.lemmas.Bool.{cases_Bool, cases_lt, cond-false, cond-true, true≢false}
-use Rattle.std.proofs.lemmas.List.{get_or_default, get_or_past, length-append}
+use Rattle.std.proofs.lemmas.Bool.{cases_Bool, cases_lt, cond-false, cond-true}
+use Rattle.std.proofs.lemmas.List.{get_or_default, get_or_past}
 use Rattle.std.proofs.lemmas.List.Elements.{All-contains, Contains-append_left, Contains-get_or, Contains-push, recursion_from_All}
-use Rattle.std.proofs.lemmas.Option.{get_or_from_slice_get}
+use Rattle.std.proofs.lemmas.Option.{get_or_from_slice_get, none-some, slice_get_within}
 use Rattle.std.proofs.lemmas.Slice.Eq.{bytes_eq-Decides}
 use Rattle.fields.specs.Packet.{PacketView as Packet}
 use Rattle.rules.specs.rule.Allows.{matches}
@@ -82,10 +81,9 @@ neither s other chains passed n side.Came went came is = came is
 pub none_next : (s other : Whole) (chains passed : Places) (n : ℕ) → NoneAhead s other chains passed (n - 1) → (IsAhead s other chains passed side.Went n → ⊥)
     → (IsAhead s other chains passed side.Came n → ⊥) → NoneAhead s other chains passed (n + 1 - 1)
 none_next s other chains passed n before went came own k first last is =
-    let P : ℕ → Type 0 = λ j. IsAhead s other chains passed own j in
     elim (cases_lt k n) [
       | inl lt ↦ before own k first (omega arith) is
-      | inr le ↦ (let e : k ≡ n = omega arith in neither s other chains passed n own went came (subst P e is))
+      | inr le ↦ (let e : k ≡ n = omega arith in neither s other chains passed n own went came (rw e at is))
     ]
 
 -- one of the pairs is of the chain at a place
@@ -126,10 +124,9 @@ own_rules t place s lt = rules_by_name t (chain_at t place) s (Contains-get_or t
 
 pub paired : (old new : Table) (chains : Places) (pair : Pair) → IsSound old → IsSound new → AreThere old new chains → name_at new.chains chains.new ≡ name_at old.chains chains.old → IsBeside old new chains pair → IsPaired old new pair
 paired old new chains pair s s' there named is =
-    let P : ℕ → Type 0 = λ k. k < length old.chains in
     let at : name_of old.chains pair ≡ name_at old.chains chains.old = ap (name_at old.chains) is.place in
     record {
-      placed = subst P (sym is.place) there.first;
+      placed = rw (← is.place) at there.first;
       shared = ap (λ n. unmarked pair.went.items (rules_of old.chains n)) at
           ∙ ap (unmarked pair.went.items) (own_rules old chains.old s there.first)
           ∙ is.shared
@@ -194,9 +191,8 @@ share_left old new a pairs all name =
     let same : one ≡ pair_named left.chains pairs name = pair_kept cs left.chains pairs name (λ place. sym (chain_named old.needs.now a cs place (empty_chain []))) in
     let went : List Bool = marks_on side.Went one in
     let came : List Bool = marks_on side.Came one in
-    let P : Option Pair → Type 0 = λ o. unmarked (marks_on side.Went o) (rules_of left.chains name) ≡ unmarked (marks_on side.Came o) (rules_of other.chains name) in
     staying_marks (λ n. get_or went (n - 1) true) went 0 (rules_of left.chains name) (λ k. ap (λ j. get_or went j true) (omega arith))
-    ∙ subst P (sym same) (shared_of left other name pairs (recursion_from_All (IsPaired left other) pairs all))
+    ∙ (rw (← same) at (shared_of left other name pairs (recursion_from_All (IsPaired left other) pairs all)))
     ∙ sym (staying_marks (λ n. get_or came (n - 1) true) came 0 (rules_of other.chains name) (λ k. ap (λ j. get_or came j true) (omega arith)))
 
 -- chains of one name beside each other, in what is left
@@ -209,10 +205,6 @@ paired_left old new chains pair s s' there named is a =
     (record { first = there_left old.needs.now a t chains.old there.first; second = there_left new.needs.now a u chains.new there.second })
     (chain_named new.needs.now a u.chains chains.new (empty_chain []) ∙ named ∙ sym (chain_named old.needs.now a t.chains chains.old (empty_chain []))) (is a)
 
--- the pairs of what is left, for one assignment
-pub pairs_under : (old new : Subject) (a : Assignment) (pairs : List Pair) → All (λ pair. (b : Assignment) → IsPaired (answered old b) (answered new b) pair) pairs → All (IsPaired (answered old a) (answered new a)) pairs
-pairs_under old new a pairs all k d lt = all k d lt a
-
 pub all_placed : (old new : Subject) (pairs : List Pair) → All (λ pair. (a : Assignment) → IsPaired (answered old a) (answered new a) pair) pairs → All (HasPlace (table_of old)) pairs
 all_placed old new pairs all k d lt =
     let a : Assignment = λ condition. false in
@@ -223,27 +215,14 @@ all_placed old new pairs all k d lt =
 -- a rule of a chain by its name is one by its place
 placed_rule : (cs : List Chain) (name : List ℕ) (place : ℕ) (rule : Rule) → slice_get (rules_of cs name) place ≡ Some rule
     → (c : ℕ) × (c < length cs) × (name_at cs c ≡ name) × (slice_get (get_or cs c (empty_chain [])).rules place ≡ Some rule)
-placed_rule [] name place rule e = absurd (nothing e)
-  where
-    nothing : ◌≡◌ {A = Option Rule} None (Some rule) → ⊥
-    nothing e = cc
+placed_rule [] name place rule e = absurd (none-some rule e)
 placed_rule (x ∷ cs) name place rule e =
-    let P : List Rule → Type 0 = λ rs. slice_get rs place ≡ Some rule in
     elim (cases_Bool (is_named name x)) [
-      | inl on ↦ (0, omega arith, (bytes_eq-Decides x.name name).0 on, subst P (cond-true (is_named name x) x.rules _ on) e)
+      | inl on ↦ (0, omega arith, (bytes_eq-Decides x.name name).0 on, rw (cond-true (is_named name x) x.rules _ on) at e)
       | inr off ↦ (
-          let w = placed_rule cs name place rule (subst P (cond-false (is_named name x) x.rules _ off) e) in
+          let w = placed_rule cs name place rule (rw (cond-false (is_named name x) x.rules _ off) at e) in
           (suc w.0, omega (arith, w.1), w.2, w.3))
     ]
-
--- a place where a list has something is within it
-within_list : (xs : List Rule) (k : ℕ) (x : Rule) → slice_get xs k ≡ Some x → k < length xs
-within_list [] k x e = absurd (nothing e)
-  where
-    nothing : ◌≡◌ {A = Option Rule} None (Some x) → ⊥
-    nothing e = cc
-within_list (y ∷ xs) zero x e = omega arith
-within_list (y ∷ xs) (suc k) x e = let w = within_list xs k x e in omega (arith, w)
 
 -- one of these rules, by its chain's name, is one of the steps
 these_step : (t : Table) (these : Entry → Bool) (steps : List Step) (name : List ℕ) (place : ℕ) (rule : Rule) → AreThese t these steps → slice_get (rules_of t.chains name) place ≡ Some rule → IsTrue (these (record { chain = name; number = place + 1 }))
@@ -253,15 +232,14 @@ these_step t these steps name place rule are e is =
     let step : Step = record { chain = w.0; number = place + 1 } in
     let entry : List ℕ → Entry = λ n. record { chain = n; number = place + 1 } in
     let own : List Rule = (chain_at t w.0).rules in
-    let within : place < length own = within_list own place rule w.3 in
+    let within : place < length own = slice_get_within own place rule w.3 in
     let this : IsThis t these step = (record { chain = w.1; first = omega arith; last = omega (arith, within) }, ap these (ap entry w.2) ∙ is) in
     (step, are.all step this, ap (λ k. get_or own k empty_rule) (omega arith) ∙ get_or_from_slice_get own place rule empty_rule w.3, ap entry w.2)
 
 pub matches_none : (t : Table) (these : Entry → Bool) (steps : List Step) (p : Packet) → AreThese t these steps → ((step : Step) → Contains steps step → IsFalse (matches p.values (rule_at t step))) → MatchesNone t these p
 matches_none t these steps p are off name place rule e is =
     let w = these_step t these steps name place rule are e is in
-    let P : Rule → Type 0 = λ r. IsFalse (matches p.values r) in
-    subst P w.2 (off w.0 w.1)
+    rw w.2 at (off w.0 w.1)
 
 -- where each of the steps that matches is off the walk, which isn't too long, they all are
 pub are_off : (t : Table) (these : Entry → Bool) (steps : List Step) (p : Packet) → AreThese t these steps → (walk t p).verdict ≢ TooLong
@@ -273,8 +251,7 @@ are_off t these steps p are short off = record {
       let make : ℕ → Entry = λ k. record { chain = entry.chain; number = k } in
       let same : entry ≡ make (entry.number - 1 + 1) = ap make (omega (arith, m.3)) in
       let w = these_step t these steps entry.chain (entry.number - 1) m.0 are m.1 (sym (ap these same) ∙ is) in
-      let P : Entry → Type 0 = λ e. Contains (walk t p).trail e in
-      off w.0 w.1 (ap (matches p.values) w.2 ∙ m.2) (subst P (same ∙ sym w.3) on));
+      off w.0 w.1 (ap (matches p.values) w.2 ∙ m.2) (rw (same ∙ sym w.3) at on));
 }
 
 -- ---- Chains of one name, aligned: the rules that aren't paired.
@@ -300,9 +277,7 @@ none_marked (rule ∷ rules) = refl
 pub marks_next : (old new : Whole) (chains passed : Places) (n : ℕ) (before after : Pair) (what : Next) → passed ≡ passed_by before → AreMarks old new chains n before → HaveNext old.table new.table chains passed
     → IsNext old new chains passed what → Adds what before after → AreMarks old new chains (suc n) after
 marks_next old new chains passed n before after what at marks have is adds =
-    let H : Places → Type 0 = λ x. HaveNext old.table new.table chains x in
-    let I : Places → Type 0 = λ x. IsNext old new chains x what in
-    (before, what, marks, subst H at have, subst I at is, adds)
+    (before, what, marks, rw (at) at have, rw (at) at is, adds)
 
 -- ---- pairs by their names
 
@@ -357,8 +332,7 @@ module _ (old new : Whole) (s : IsSound old.table) (s' : IsSound new.table) (pai
       let second : p.chains.new ≡ chains.new = one_place new.table p.chains.new chains.new s' there.second (p.named ∙ ap (name_at old.table.chains) first ∙ sym named) in
       let make : ℕ → ℕ → Places = λ x y. record { old = x; new = y } in
       let at : p.chains ≡ chains = ap (λ x. make x p.chains.new) first ∙ ap (λ y. make chains.old y) second in
-      let P : Places → Type 0 = λ x. IsAligned old new x q in
-      (q, subst P at p.aligned, record { first = λ number. ap (marked side.Went number) e; second = λ number. ap (marked side.Came number) e })
+      (q, rw (at) at p.aligned, record { first = λ number. ap (marked side.Went number) e; second = λ number. ap (marked side.Came number) e })
 
   -- where there is no pair of a name, all rules are taken
   alone_by : (own : Side) (name : List ℕ) (number : ℕ) (o : Option Pair) → pair_named old.table.chains pairs name ≡ o → ((pair : Pair) → Contains pairs pair → name_of old.table.chains pair ≡ name → ⊥)

@@ -1,38 +1,27 @@
 -- Steps of the walk of a box, and its end.
-use Rattle.std.proofs.Common.{◌≡◌, inl, inr, ℕ, ◌+◌, List, length, sym, arith, subst, Some, All, Contains}
-use Rattle.std.proofs.Math.Numerals.{add-one}
+use Rattle.std.proofs.Common.{◌≡◌, inl, inr, List, length, sym, arith, subst, Some, All}
 use Rattle.std.proofs.lemmas.List.Elements.{All-pop, Contains-push_cases}
 use Rattle.fields.specs.declared.packet.hook.Hook.{Hook}
 use Rattle.fields.specs.Packet.{PacketView as Packet}
 use Rattle.table.specs.chains.Table.{Table}
 use Rattle.questions.specs.Foreign.{Assignment}
-use Rattle.questions.specs.Scopes.{AreExactUnder, AreLeavesUnder, EndsUnder, IsOf, IsSurely, Known, ShowsUnder, Whole, known_under, left_under}
+use Rattle.questions.specs.Scopes.{AreExactUnder, AreLeavesUnder, EndsUnder, IsOf, IsSurely, Known, Whole, known_under, left_under}
 use Rattle.questions.specs.boxes.Boxes.{IsAtHook}
-use Rattle.questions.specs.steps.Taken.{GetsTo, IsStep, AreSteps}
-use Rattle.questions.specs.steps.Waiting.{WaitsIn, IsAccounted, FitsTask, AreThere, Begins}
+use Rattle.questions.specs.steps.Taken.{IsStep}
+use Rattle.questions.specs.steps.Waiting.{IsAccounted, FitsTask, AreThere, Begins}
 use Rattle.questions.specs.declared.walking.front.Front.{Front}
 use Rattle.questions.specs.declared.walking.scope.Scope.{Scope}
 use Rattle.questions.specs.declared.walking.task.Leaf.{Leaf}
-use Rattle.questions.specs.declared.walking.task.Task.{Task}
 use Rattle.questions.proofs.laws.WaitLaws.{any_same}
 
 -- no task is left
 pub all_leaves : (t : Table) (known : Known) (hook : Hook) (scope : Scope) (front : Front) → Begins t known hook scope front → length front.tasks.items ≡ 0 → AreLeavesUnder t known hook scope front.leaves.items
 all_leaves t known hook scope front begins none = λ p can e own.
-    elim (begins.all p can e own) [
-      | inl a ↦ absurd (omega (arith, none, a.2))
-      | inr a ↦ a
-    ]
+    elim (begins.all p can e own) [ inl a ↦ absurd (omega (arith, none, a.2)) | inr a ↦ a ]
 
 -- and these are exact
 pub all_exact : (t : Table) (known : Known) (hook : Hook) (scope : Scope) (front : Front) → Begins t known hook scope front → AreExactUnder t known hook scope front.leaves.items
 all_exact t known hook scope front begins = λ p can e. (begins.fits p can e).leaves
-
--- one step more
-pub gets_on : (w : Whole) (hook : Hook) (scope : Scope) (n : ℕ) (old new : Front) → GetsTo w hook scope n old → IsStep w hook scope old new → GetsTo w hook scope (n + 1) new
-gets_on w hook scope n old new gets step =
-    let P : ℕ → Type 0 = λ k. AreSteps k w hook scope gets.first new in
-    record { first = gets.first; begins = gets.begins; takes = subst P (sym (add-one n)) (old, gets.takes, step) }
 
 module _ (w : Whole) (a : Assignment) where
   abbrev t : Table
@@ -48,15 +37,13 @@ module _ (w : Whole) (a : Assignment) where
     fits = λ p can e.
         (let before = begins.fits p can e in
         let split = All-pop (FitsTask t known scope p) old.tasks.items left.tasks.items (Some task) up.tasks before.tasks in
-        let L : List Leaf → Type 0 = λ ls. All (ShowsUnder t known scope p) ls in
-        let B : Scope → Type 0 = λ b. IsOf known p b in
         (on.moves a).fits scope p (record { at_hook = can; ends = up.ends p e })
         (λ own.
         let further = on.further a in
-        let there = subst B further.same own in
+        let there = rw further.same at own in
         let belongs = split.1 there in
         (belongs.0, (further.waits p can belongs.0 (record { own = there; reaches = belongs.1 })).reaches))
-        (record { tasks = split.0; leaves = subst L (sym up.leaves) before.leaves }));
+        (record { tasks = split.0; leaves = rw (← up.leaves) at before.leaves }));
     there = (on.moves a).keeps.there (All-pop (AreThere t.chains) old.tasks.items left.tasks.items (Some task) up.tasks begins.there).0;
     decided = (let S : List Leaf → Type 0 = λ ls. All (IsSurely known) ls in (on.moves a).keeps.decided (subst S (sym up.leaves) begins.decided));
   }
@@ -64,9 +51,7 @@ module _ (w : Whole) (a : Assignment) where
       by_case : (p : Packet) → IsAtHook p → p.hook ≡ hook → IsOf known p scope → IsAccounted t known p old → IsAccounted t known p new
       by_case p can e own (inr ends) = (on.moves a).keeps.kept p (inr (any_same (EndsUnder t known p) old.leaves.items left.leaves.items up.leaves ends))
       by_case p can e own (inl waits) =
-          let R : List Task → Type 0 = λ ts. Contains ts waits.1 in
-          let S : Task → Type 0 = λ x. WaitsIn t known p x in
-          elim (Contains-push_cases left.tasks.items task waits.1 (subst R up.tasks (waits.0, waits.2, waits.3))) [
+          elim (Contains-push_cases left.tasks.items task waits.1 (rw (← up.tasks) (waits.0, waits.2, waits.3))) [
             | inl c ↦ (on.moves a).keeps.kept p (inl (c.0, waits.1, c.1, c.2, waits.4))
-            | inr is ↦ (on.moves a).moved p (record { at_hook = can; ends = up.ends p e }) ((on.further a).waits p can own (subst S (sym is) waits.4))
+            | inr is ↦ (on.moves a).moved p (record { at_hook = can; ends = up.ends p e }) ((on.further a).waits p can own (rw (← is) at waits.4))
           ]

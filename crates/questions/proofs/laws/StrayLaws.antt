@@ -1,9 +1,8 @@
 -- A packet comes to a rule only by an open way.
-use Rattle.std.proofs.Common.{◌≡◌, inl, inr, ℕ, zero, suc, ◌+◌, List, [], ◌∷◌, ◌++◌, length, refl, sym, ◌∙◌, ap, arith, subst, Option, Some, None, All, Contains, IsTrue}
-use Rattle.std.specs.Prelude.{IsFalse}
-use Rattle.std.proofs.lemmas.Bool.{cases_lt, cases_eq, true≢false}
+use Rattle.std.proofs.Common.{◌≡◌, inl, inr, ℕ, zero, suc, ◌+◌, List, [], ◌∷◌, ◌++◌, length, refl, sym, ◌∙◌, ap, arith, subst, Option, Some, None, All, Contains, IsTrue, true≢false}
+use Rattle.std.proofs.lemmas.Bool.{cases_lt, cases_eq}
 use Rattle.std.proofs.lemmas.List.Elements.{All-nil, All-push, All-contains}
-use Rattle.std.proofs.lemmas.Option.{slice_get-get_or, slice_get_past}
+use Rattle.std.proofs.lemmas.Option.{slice_get-get_or, slice_get_past, same_Some}
 use Rattle.fields.specs.Hook.{name as hook_name}
 use Rattle.fields.specs.Packet.{PacketView as Packet}
 use Rattle.rules.specs.declared.rule.target.Target.{Target}
@@ -18,9 +17,6 @@ use Rattle.table.specs.walk.Walk.{Rest, Entry, Next, Ends as EndsWith, GoesOn, a
 use Rattle.table.proofs.laws.walk.CaseLaws.{walks_by_cases}
 use Rattle.questions.specs.steps.Straying.{Decides, Ends, Hits, IsEnded, IsLedAway, IsOpenWay, LeadsAway, TakesOut, place_of}
 use Rattle.questions.proofs.laws.TrailLaws.{none_some}
-
-some_same : {X : Type 0} (a b : X) → ◌≡◌ {A = Option X} (Some a) (Some b) → a ≡ b
-some_same a b e = cc
 
 module _ (cs : List Chain) (policy : Verdict) (values : List ℕ) (first : List ℕ) where
   -- a chain that an open way leads into, and a place of it before which nothing leads away
@@ -41,11 +37,7 @@ module _ (cs : List Chain) (policy : Verdict) (values : List ℕ) (first : List 
 
   -- what is known of a rule that matches, and what of one that doesn't
   hits_same : (rest : Rest) (rule : Rule) (o : Option Target) → next_rule cs rest ≡ Some rule → Hits cs values rest o → o ≡ target_of rule
-  hits_same rest rule o is h = sym h.3 ∙ ap target_of (some_same h.0 rule (sym h.1 ∙ is))
-
-  hits_none : (rest : Rest) (rule : Rule) (o : Option Target) → next_rule cs rest ≡ Some rule → IsFalse (matches values rule) → Hits cs values rest o → ⊥
-  hits_none rest rule o is un h =
-      true≢false (sym h.2 ∙ ap (matches values) (some_same h.0 rule (sym h.1 ∙ is)) ∙ un)
+  hits_same rest rule o is h = sym h.3 ∙ ap target_of (same_Some h.0 rule (sym h.1 ∙ is))
 
   ends_hits : (rest : Rest) (path : List Rest) → Ends cs values rest path → (o : Option Target) × Hits cs values rest o
   ends_hits rest [] e = (e.0, e.1)
@@ -88,9 +80,8 @@ module _ (cs : List Chain) (policy : Verdict) (values : List ℕ) (first : List 
   ends_entered rest rule o chain to never into is [] e = let same : e.0 ≡ o = hits_same rest rule e.0 is e.1 ∙ to in absurd (never (subst Decides same e.2))
   ends_entered rest rule o chain to never into is (next ∷ path) e =
       let same : e.0 ≡ o = hits_same rest rule e.0 is e.1 ∙ to in
-      let name : next.chain ≡ chain = some_same next.chain chain (sym e.2 ∙ ap chain_in same ∙ into) in
-      let P : List ℕ → Type 0 = λ n. IsEnded cs values (whole n) in
-      subst P name (next.passed, omega arith, e.3, (path, e.4))
+      let name : next.chain ≡ chain = same_Some next.chain chain (sym e.2 ∙ ap chain_in same ∙ into) in
+      rw (← name) (next.passed, omega arith, e.3, (path, e.4))
 
   -- a rule that neither ends the walk nor takes the packet out doesn't lead away
   not_away : (rest : Rest) (rule : Rule) (o : Option Target) → target_of rule ≡ o → (TakesOut o → ⊥) → next_rule cs rest ≡ Some rule → ((path : List Rest) → Ends cs values rest path → ⊥) → LeadsAway cs values rest → ⊥
@@ -145,15 +136,11 @@ module _ (cs : List Chain) (policy : Verdict) (values : List ℕ) (first : List 
   step_good (Over walked) next s h = absurd s
   step_good (Under [] trail) next s h = subst AreGood (sym s) h.1
   step_good (Under (rest ∷ waiting) trail) next (inl p) h =
-      let un : (o : Option Target) → Hits cs values rest o → ⊥ = λ o. hits_none rest p.0 o p.1 p.2 in
-      let never : LeadsAway cs values rest → ⊥ = λ away. elim away [
-        | inl e ↦ (let on = ends_hits rest e.0 e.1 in un on.0 on.1)
-        | inr l ↦ un l.0 l.1
-      ] in
+      let un : (o : Option Target) → Hits cs values rest o → ⊥ = λ o. (λ h. true≢false (sym h.2 ∙ ap (matches values) (same_Some h.0 p.0 (sym h.1 ∙ p.1)) ∙ p.2)) in
+      let never : LeadsAway cs values rest → ⊥ = λ away. elim away [ inl e ↦ (let on = ends_hits rest e.0 e.1 in un on.0 on.1) | inr l ↦ un l.0 l.1 ] in
       subst AreGood (sym p.3) (come_on rest waiting h.0 never, h.1)
   step_good (Under (rest ∷ waiting) trail) next (inr (inl p)) h = subst AreGood (sym p.4) (All-nil IsGood)
-  step_good (Under (rest ∷ waiting) trail) next (inr (inr (inr p))) h =
-      subst AreGood (sym p.1) (h.0.1 (λ ended. no_rule ended), h.1)
+  step_good (Under (rest ∷ waiting) trail) next (inr (inr (inr p))) h = subst AreGood (sym p.1) (h.0.1 (λ ended. no_rule ended), h.1)
     where
       no_rule : IsEnded cs values rest → ⊥
       no_rule ended =

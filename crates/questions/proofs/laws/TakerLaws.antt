@@ -1,30 +1,27 @@
 -- Who decides the packets that a rule matches where all holds that it needs.
-use Rattle.std.proofs.Common.{◌≡◌, ◌⊎◌, inl, inr, ℕ, ◌+◌, ◌-◌, ◌<◌, Bool, true, false, List, [], ◌∷◌, ◌++◌, length, get_or, refl, sym, ◌∙◌, ap, arith, subst, Option, Some, None, All, Contains}
-use Rattle.std.specs.Prelude.{AllPairs, Any, IfOk, IsTrue, MatchOption, Result}
+use Rattle.std.proofs.Common.{◌≡◌, ◌⊎◌, inl, inr, ℕ, ◌+◌, ◌-◌, ◌<◌, Bool, true, false, List, [], length, get_or, refl, sym, ◌∙◌, ap, arith, subst, Option, Some, None, All, Contains, Any, IfOk, IsTrue, MatchOption, Result, true≢false}
 use Rattle.std.specs.declared.alloc.AllocError.{AllocError}
 use Rattle.std.specs.Option.{option_map}
-use Rattle.std.proofs.lemmas.Bool.{and_from, cases_Bool, true≢false}
+use Rattle.std.proofs.lemmas.Bool.{and_from, cases_Bool}
 use Rattle.std.proofs.lemmas.Result.{IfOk-weaker}
 use Rattle.std.proofs.lemmas.List.{get_or_default}
-use Rattle.std.proofs.lemmas.List.Elements.{All-contains, All-nil, Contains-append_left, Contains-get_or, Contains-push, Contains-push_cases}
-use Rattle.std.proofs.lemmas.List.Quantifiers.{all_pairs_push}
+use Rattle.std.proofs.lemmas.List.Elements.{All-contains, All-nil, Contains-get_or}
 use Rattle.fields.specs.declared.numbers.field.Field.{Field}
 use Rattle.fields.specs.declared.numbers.field.Field.TheVariants as field
 use Rattle.fields.specs.declared.packet.hook.Hook.{Hook}
-use Rattle.fields.specs.declared.packet.hook.Hook.TheVariants.{Input, Forward, Output}
+use Rattle.fields.specs.declared.packet.hook.Hook.TheVariants.{Input}
 use Rattle.fields.specs.Hook.{all_hooks, name as hook_name}
 use Rattle.fields.specs.numbers.Spans.{SpanSet, has}
 use Rattle.fields.specs.Packet.{PacketView as Packet, IsPacket, point}
 use Rattle.rules.specs.Boxed.{IsBoxOf, set_on}
 use Rattle.rules.specs.rule.Allows.{allows_each, matches}
 use Rattle.rules.specs.rule.Crossing.{cross}
-use Rattle.rules.specs.rule.Rules.{Rule}
 use Rattle.table.specs.chains.Sound.{IsSound, Path}
 use Rattle.table.specs.chains.Table.{Table, empty_chain}
 use Rattle.table.specs.declared.walk.trail.Step.{Step}
 use Rattle.table.specs.walk.Walk.{Entry, Walked, walk}
 use Rattle.questions.specs.Ends.{IsRule, decider_of, rule_at, step_of}
-use Rattle.questions.specs.Foreign.{Assignment, all_hold, needs_at, resolved, resolved_rule}
+use Rattle.questions.specs.Foreign.{Assignment, all_hold, needs_at, resolved_rule}
 use Rattle.questions.specs.Leaves.{entry_of}
 use Rattle.questions.specs.Scopes.{EndsUnder, IsOf, IsSurely, Known, answered, known_by, scope_of, table_of, under}
 use Rattle.questions.specs.asked.Always.{IsAlwaysDead, IsAlwaysDeadAt}
@@ -44,10 +41,10 @@ use Rattle.questions.specs.steps.Exact.{AreExactWalksUnder, IsExactUnder}
 use Rattle.questions.specs.steps.Takers.{IsScopeAt, IsScopeBy, needs_of, Grows, IsAmong, IsBoxAt, IsBoxBy, IsByThis, IsLetBy, Takes, TakesAll}
 use Rattle.questions.proofs.laws.AnswerLaws.{some_assignment_gives}
 use Rattle.questions.proofs.laws.AreaLaws.{box_of_rule, has_of_rule, on_field}
-use Rattle.questions.proofs.laws.TrailLaws.{by_policy_where, decider_is_rule, decider_under, none_some, step_by, items_next, rule_matches}
+use Rattle.questions.proofs.laws.TrailLaws.{by_policy_where, decider_is_rule, decider_under, step_by, items_next, rule_matches}
 use Rattle.questions.proofs.laws.ForeignLaws.{left_sound, path_kept}
 use Rattle.questions.proofs.laws.LeadLaws.{entry_led}
-use Rattle.questions.proofs.laws.ResolvedLaws.{never_matches, chain_named, count_left, entry_left, length_same, resolved_is, resolved_not, rule_at_left, rule_left_there, there_left}
+use Rattle.questions.proofs.laws.ResolvedLaws.{never_matches, chain_named, entry_left, resolved_is, resolved_not, rule_at_left, rule_back, rule_left_there, there_left}
 use Rattle.questions.proofs.laws.PlainLaws.{gives_none}
 use Rattle.questions.proofs.laws.ReachLaws.{packet_with, with_inside, with_packet}
 
@@ -60,23 +57,16 @@ met_on s a p step hook sound is can there on =
     let needs = s.needs.now in
     let t = table_of s in
     let own : List Need = needs_at needs step.chain (step.number - 1) in
-    let P : Rule → Type 0 = λ r. matches p.values r ≡ true in
     let m : matches p.values (resolved_rule a own (rule_at t step)) ≡ true =
-    subst P (rule_at_left needs a t step is) (rule_matches (answered s a) p step (left_sound needs a t sound) (rule_left_there needs a t step is) on) in
+    rw (rule_at_left needs a t step is) at (rule_matches (answered s a) p step (left_sound needs a t sound) (rule_left_there needs a t step is) on) in
     elim (cases_Bool (all_hold a own)) [
-      | inl held ↦ record { matched = record { can = can; there = there; matched = subst P (resolved_is a own (rule_at t step) held) m }; held = held }
-      | inr un ↦ absurd (true≢false (sym (subst P (resolved_not a own (rule_at t step) un) m) ∙ never_matches p.values))
+      | inl held ↦ record { matched = record { can = can; there = there; matched = rw (resolved_is a own (rule_at t step) held) at m }; held = held }
+      | inr un ↦ absurd (true≢false (sym (rw (resolved_not a own (rule_at t step) un) at m) ∙ never_matches p.values))
     ]
 
 -- an entry of the rule in the table is one in what is left of it
 pub on_left : (s : Subject) (a : Assignment) (p : Packet) (step : Step) → Contains (walk (answered s a) p).trail (entry_of (table_of s).chains step) → Contains (walk (answered s a) p).trail (entry_of (answered s a).chains step)
 on_left s a p step on = let P : Entry → Type 0 = λ entry. Contains (walk (answered s a) p).trail entry in subst P (sym (entry_left s.needs.now a (table_of s) step)) on
-
--- a rule of what is left is one of the table
-rule_before : (needs : List (List (List Need))) (a : Assignment) (t : Table) (step : Step) → IsRule (resolved needs a t) step → IsRule t step
-rule_before needs a t step is =
-    let there : step.chain < length t.chains = omega (arith, is.chain, length_same needs a t.chains) in
-    record { chain = there; first = is.first; last = omega (arith, is.last, count_left needs a t step.chain there) }
 
 -- ---- a set of a rule's box without numbers
 
@@ -215,9 +205,8 @@ module _ (s : Subject) (step : Step) (hook : Hook) (sound : IsSound (table_of s)
         dead = λ a p can e let_in on.
             (let (k, leaf, lt, at, (surely, ends)) = in_leaf a p (met_on s a p step hook sound is can e on) let_in in
             let t = answered s a in
-            let P : Walked → Type 0 = λ w. Contains w.trail (entry_of t.chains step) in
             let lt_left = there_left s.needs.now a (table_of s) step.chain is.chain in
-            let (there, met) = step_by t (known_by s a) leaf.trail.items step (left_sound s.needs.now a (table_of s) sound) lt_left (subst P ends.walked on) in
+            let (there, met) = step_by t (known_by s a) leaf.trail.items step (left_sound s.needs.now a (table_of s) sound) lt_left (rw ends.walked at on) in
             All-contains (λ (l : Leaf). Contains l.trail.items step → ⊥) exact leaf none (k, lt, at) there);
         all = λ a p m let_in.
             (let (k, leaf, lt, at, (surely, ends)) = in_leaf a p m let_in in
@@ -233,85 +222,6 @@ grows_same takers = record { kept = λ hook by h. h; once = λ h. h; apart = λ 
 pub grows_on : (a b c : Takers) → Grows a b → Grows b c → Grows a c
 grows_on a b c first then = record { kept = λ hook by h. then.kept hook by (first.kept hook by h); once = λ h. then.once (first.once h); apart = λ h. then.apart (first.apart h) }
 
--- one more item, which wasn't there
-module _ {X : Type 0} (old new : List X) (x : X) (is : new ≡ old ++ x ∷ []) where
-  pub kept_on : (y : X) → Contains old y → Contains new y
-  kept_on y h = let P : List X → Type 0 = λ xs. Contains xs y in subst P (sym is) (Contains-append_left old (x ∷ []) y h)
-
-  pub added_on : Contains new x
-  added_on = let P : List X → Type 0 = λ xs. Contains xs x in subst P (sym is) (Contains-push old x)
-
-  pub only_on : (y : X) → Contains new y → Contains old y ⊎ (x ≡ y)
-  only_on y h = let P : List X → Type 0 = λ xs. Contains xs y in Contains-push_cases old x y (subst P is h)
-
-  pub once_on : (Contains old x → ⊥) → AllPairs (λ (a b : X). a ≡ b → ⊥) old → AllPairs (λ (a b : X). a ≡ b → ⊥) new
-  once_on none h =
-      let P : List X → Type 0 = λ xs. AllPairs (λ (a b : X). a ≡ b → ⊥) xs in
-      subst P (sym is) (all_pairs_push (λ (a b : X). a ≡ b → ⊥) old x h (λ k d lt at. none (k, lt, get_or_default old k x d lt ∙ at)))
-
-module _ (own : Hook) (leaf : Leaf) (old new : Takers) where
-  -- the policy of a hook that is named
-  pub takes_old_policy : step_of leaf ≡ None → new ≡ old → Contains old.policies.items own → Takes own leaf old new
-  takes_old_policy e same c =
-      let P : Takers → Type 0 = λ n. Takes own leaf old n in
-      let Q : Option Step → Type 0 = λ by. IsAmong old own by in
-      subst P (sym same) (record { grows = grows_same old; added = subst Q (sym e) c; only = λ hook by h. inl h })
-
-  -- and one that isn't
-  pub takes_policy : step_of leaf ≡ None → (Contains old.policies.items own → ⊥) → new.policies.items ≡ old.policies.items ++ own ∷ [] → new.rules.items ≡ old.rules.items → Takes own leaf old new
-  takes_policy e none is rules = record {
-    grows = record { kept = kept; once = λ h. subst O (sym rules) h; apart = once_on old.policies.items new.policies.items own is none };
-    added = (let Q : Option Step → Type 0 = λ by. IsAmong new own by in subst Q (sym e) (added_on old.policies.items new.policies.items own is));
-    only = only;
-  }
-    where
-      O : List Step → Type 0
-      O items = AllPairs (λ (a b : Step). a ≡ b → ⊥) items
-
-      kept : (hook : Hook) (by : Option Step) → IsAmong old hook by → IsAmong new hook by
-      kept hook None h = kept_on old.policies.items new.policies.items own is hook h
-      kept hook (Some x) h = let P : List Step → Type 0 = λ xs. Contains xs x in subst P (sym rules) h
-
-      only : (hook : Hook) (by : Option Step) → IsAmong new hook by → IsAmong old hook by ⊎ IsByThis own leaf hook by
-      only hook None h = elim (only_on old.policies.items new.policies.items own is hook h) [
-        | inl c ↦ inl c
-        | inr same ↦ inr (record { decides = e; there = λ _. sym same })
-      ]
-      only hook (Some x) h = let P : List Step → Type 0 = λ xs. Contains xs x in inl (subst P rules h)
-
-  module _ (step : Step) (e : step_of leaf ≡ Some step) where
-    not_none : (x : Step) → Some x ≡ None → ⊥
-    not_none x h = none_some (sym h)
-
-    -- a rule that is named
-    pub takes_known : new ≡ old → Contains old.rules.items step → Takes own leaf old new
-    takes_known same c =
-        let P : Takers → Type 0 = λ n. Takes own leaf old n in
-        let Q : Option Step → Type 0 = λ by. IsAmong old own by in
-        subst P (sym same) (record { grows = grows_same old; added = subst Q (sym e) c; only = λ hook by h. inl h })
-
-    -- and one that isn't
-    pub takes_new : (Contains old.rules.items step → ⊥) → new.rules.items ≡ old.rules.items ++ step ∷ [] → new.policies.items ≡ old.policies.items → Takes own leaf old new
-    takes_new none is policies = record {
-      grows = record { kept = kept; once = once_on old.rules.items new.rules.items step is none; apart = λ h. subst O (sym policies) h };
-      added = (let Q : Option Step → Type 0 = λ by. IsAmong new own by in subst Q (sym e) (added_on old.rules.items new.rules.items step is));
-      only = only;
-    }
-      where
-        O : List Hook → Type 0
-        O items = AllPairs (λ (a b : Hook). a ≡ b → ⊥) items
-
-        kept : (hook : Hook) (by : Option Step) → IsAmong old hook by → IsAmong new hook by
-        kept hook None h = let P : List Hook → Type 0 = λ xs. Contains xs hook in subst P (sym policies) h
-        kept hook (Some x) h = kept_on old.rules.items new.rules.items step is x h
-
-        only : (hook : Hook) (by : Option Step) → IsAmong new hook by → IsAmong old hook by ⊎ IsByThis own leaf hook by
-        only hook None h = let P : List Hook → Type 0 = λ xs. Contains xs hook in inl (subst P policies h)
-        only hook (Some x) h = elim (only_on old.rules.items new.rules.items step is x h) [
-          | inl c ↦ inl c
-          | inr same ↦ inr (record { decides = e ∙ ap Some same; there = λ n. absurd (not_none x n) })
-        ]
-
 -- leaf after leaf
 module _ (own : Hook) (leaves : List Leaf) (i : ℕ) (leaf : Leaf) (lt : i < length leaves) (is : leaf ≡ get_or leaves i leaf) (first old new : Takers) (takes : Takes own leaf old new) where
   abbrev Own : Takers → Leaf → Type 0
@@ -322,10 +232,7 @@ module _ (own : Hook) (leaves : List Leaf) (i : ℕ) (leaf : Leaf) (lt : i < len
 
   pub only_next : ((hook : Hook) (by : Option Step) → IsAmong old hook by → IsAmong first hook by ⊎ Any (λ (l : Leaf). IsByThis own l hook by) leaves) → (hook : Hook) (by : Option Step) → IsAmong new hook by
       → IsAmong first hook by ⊎ Any (λ (l : Leaf). IsByThis own l hook by) leaves
-  only_next below hook by h = elim (takes.only hook by h) [
-    | inl before ↦ below hook by before
-    | inr e ↦ inr (i, leaf, lt, sym is, e)
-  ]
+  only_next below hook by h = elim (takes.only hook by h) [ inl before ↦ below hook by before | inr e ↦ inr (i, leaf, lt, sym is, e) ]
 
 -- ---- of which packets, and at which hooks
 
@@ -340,7 +247,7 @@ module _ (s : Subject) (step : Step) where
     shown_by a p leaf None ends e = ends.policy ∙ by_policy_where leaf e
     shown_by a p leaf (Some x) ends e =
         let decides : IsDecidedBy (answered s a) p x = ends.decides ∙ ap (option_map (entry_of (answered s a).chains)) e in
-        (rule_before s.needs.now a (table_of s) x (decider_is_rule (answered s a) p (Some x) (left_sound s.needs.now a (table_of s) sound) decides), decides)
+        (rule_back s.needs.now a (table_of s) x (decider_is_rule (answered s a) p (Some x) (left_sound s.needs.now a (table_of s) sound) decides), decides)
 
     among_of : (a : Assignment) (p : Packet) (takers : Takers) (by : Option Step) → Decides a p by → IsAmong takers p.hook by → IsDecidedAmong (answered s a) takers p
     among_of a p takers None shown h = inl (h, shown)
@@ -353,15 +260,13 @@ module _ (s : Subject) (step : Step) where
         decided = λ led a p m here.
             (let w = before.all a p m here in
             let there : IsAmong new hook (step_of w.1) = All-contains (λ (l : Leaf). IsAmong new hook (step_of l)) leaves w.1 takes.added (w.0, w.2, w.3) in
-            let P : Hook → Type 0 = λ h. IsAmong new h (step_of w.1) in
-            among_of a p new (step_of w.1) (shown_by a p w.1 (step_of w.1) w.4 refl) (subst P (sym m.matched.there) there));
+            among_of a p new (step_of w.1) (shown_by a p w.1 (step_of w.1) w.4 refl) (rw (← m.matched.there) at there));
       }
 
       -- a packet of a leaf that this decides
       meant_there : IsLed (table_of s) step hook → (a : Assignment) (p : Packet) → IsMatchedUnder s a step hook p → IsMeantUnder s a step p
       meant_there led a p m =
-          let P : Hook → Type 0 = λ k. IsLed (table_of s) step k in
-          record { meant = record { can = m.matched.can; led = subst P (sym m.matched.there) led; matched = m.matched.matched }; held = m.held }
+          record { meant = record { can = m.matched.can; led = rw (← m.matched.there) at led; matched = m.matched.matched }; held = m.held }
 
       module _ (Asked : Packet → Type 0) (asked : (p : Packet) → p.hook ≡ hook → Region p → Asked p) where
         taken_by : (at : Hook) (by : Option Step) (leaf : Leaf) → IsLed (table_of s) step hook → IsByThis hook leaf at by → IsWalked s step Region hook leaf → TakesOne s step Asked at by
@@ -381,10 +286,7 @@ module _ (s : Subject) (step : Step) where
 
     -- a hook from which nothing leads to the rule's chain
     pub unled_at : (takers : Takers) (hook : Hook) → (IsLed (table_of s) step hook → ⊥) → IsTakenAt s step Asked takers hook
-    unled_at takers hook none = record {
-      dead = λ a p can e asked on. unled_dead s step hook none a p can e on;
-      decided = λ led. absurd (none led);
-    }
+    unled_at takers hook none = record { dead = λ a p can e asked on. unled_dead s step hook none a p can e on; decided = λ led. absurd (none led) }
 
     pub taken_on : (hook : Hook) (old new : Takers) → Grows old new → IsTakenAt s step Asked old hook → IsTakenAt s step Asked new hook
     taken_on hook old new g at = record {
@@ -400,12 +302,6 @@ module _ (s : Subject) (step : Step) where
     hooks_next old new i d lt grows here below =
         let hook : Hook = get_or all_hooks i d in
         items_next (IsTakenAt s step Asked new) all_hooks i hook lt (get_or_default all_hooks i d hook lt) (λ k h less. taken_on (get_or all_hooks k h) old new grows (below k h less)) here
-
--- what holds at each place of the hooks holds of each
-pub hooks_all : (P : Hook → Type 0) → ((k : ℕ) (h : Hook) → k < 3 → P (get_or all_hooks k h)) → (hook : Hook) → P hook
-hooks_all P all Input = all 0 Input (omega arith)
-hooks_all P all Forward = all 1 Input (omega arith)
-hooks_all P all Output = all 2 Input (omega arith)
 
 -- ---- what is said
 

@@ -1,16 +1,14 @@
 -- Trails of walks: each rule on one matches its packet, rules put while their needs were open, and who decides at the end.
-use Rattle.std.proofs.Common.{◌≡◌, inl, inr, ℕ, zero, suc, ◌+◌, ◌-◌, ◌<◌, true, List, [], ◌∷◌, ◌++◌, length, get_or, refl, sym, ◌∙◌, ap, arith, subst, Option, Some, None, All, Contains, IsTrue, ◌≤◌, Bool, false, cond, map}
-use Rattle.std.specs.Prelude.{position, slice_get, IfSome, filter}
+use Rattle.std.proofs.Common.{◌≡◌, inl, inr, ℕ, zero, suc, ◌+◌, ◌-◌, ◌<◌, true, List, [], ◌∷◌, ◌++◌, length, get_or, refl, sym, ◌∙◌, ap, arith, subst, Option, Some, None, All, Contains, IsTrue, ◌≤◌, Bool, false, cond, map, position, slice_get, IfSome, filter, true≢false, append-nil, length-append}
 use Rattle.std.specs.Option.{option_map}
-use Rattle.std.proofs.lemmas.Bool.{cases_lt, true≢false, cases_Bool, cond-false, cond-true}
-use Rattle.std.proofs.lemmas.List.{length-map, get_or-map, get_or_default, get_or_past, append-nil, length-append, map-append}
-use Rattle.std.proofs.lemmas.List.Elements.{All-nil, All-push, All-contains, Contains-get_or, All-cons, All-filter, filter-append}
-use Rattle.std.proofs.lemmas.Option.{slice_get-get_or, slice_get_within, get_or_from_slice_get, slice_get-map}
+use Rattle.std.proofs.lemmas.Bool.{cases_lt, cases_Bool, cond-false, cond-true}
+use Rattle.std.proofs.lemmas.List.{length-map, get_or-map, get_or_default, get_or_past, map-append}
+use Rattle.std.proofs.lemmas.List.Elements.{All-nil, All-push, All-contains, Contains-get_or, All-filter, filter-append, filter_passes}
+use Rattle.std.proofs.lemmas.Option.{slice_get-get_or, slice_get_within, get_or_from_slice_get, slice_get-map, same_Some, none-some}
 use Rattle.std.proofs.Math.Seq.{get_or-append_seam}
 use Rattle.std.proofs.lemmas.List.Sums.{count_by-le-length, length-filter}
 use Rattle.std.proofs.lemmas.Slice.Eq.{bytes_eq-Decides}
 use Rattle.fields.specs.Packet.{PacketView as Packet}
-use Rattle.fields.specs.values.Name.{is_name}
 use Rattle.rules.specs.rule.Allows.{matches}
 use Rattle.rules.specs.rule.Rules.{Rule, empty_rule}
 use Rattle.table.specs.chains.Sound.{IsSound, AreListed, IsUserName}
@@ -75,8 +73,7 @@ no_empty_name (a ∷ b ∷ c ∷ ns) (suc zero) h lt e = let is = ap (λ (xs : L
 no_empty_name (a ∷ b ∷ c ∷ ns) (suc (suc zero)) h lt e = let is = ap (λ (xs : List (List ℕ)). length (get_or xs 2 [])) h.built_in in omega (arith, is, ap (λ (n : List ℕ). length n) e)
 no_empty_name (a ∷ b ∷ c ∷ ns) (suc (suc (suc j))) h lt e =
     let own : IsUserName (get_or ns j []) = h.user j [] (omega (arith, lt)) in
-    let P : List ℕ → Type 0 = λ n. IsTrue (is_name n) in
-    true≢false (sym (subst P e own.form))
+    true≢false (sym (rw e at own.form))
 
 pub name_is : (cs : List Chain) (i : ℕ) → name_at cs i ≡ get_or (names_of cs) i []
 name_is [] zero = refl
@@ -120,10 +117,7 @@ rule_matches t p step s is c =
     let within : step.number - 1 < length own_rules = omega (arith, is.first, is.last) in
     let one : ◌≡◌ {A = Option Rule} (Some (rule_at t step)) (Some m.0) =
     sym (slice_get-get_or own_rules (step.number - 1) empty_rule within) ∙ sym (ap (λ (rs : List Rule). slice_get rs (step.number - 1)) own) ∙ m.1 in
-    ap (matches p.values) (some_is one) ∙ m.2
-  where
-    some_is : {a b : Rule} → ◌≡◌ {A = Option Rule} (Some a) (Some b) → a ≡ b
-    some_is e = cc
+    ap (matches p.values) (same_Some (rule_at t step) m.0 one) ∙ m.2
 
 -- what holds of each element below a place, and there, holds up to it
 pub items_next : {X : Type 0} (P : X → Type 0) (xs : List X) (i : ℕ) (x : X) → i < length xs → x ≡ get_or xs i x → ((k : ℕ) (d : X) → k < i → P (get_or xs k d)) → P x → (k : ℕ) (d : X) → k < i + 1 → P (get_or xs k d)
@@ -143,16 +137,10 @@ shown_is t entry step e = by_place (position (is_named entry.chain) t.chains) re
     make : ℕ → Step
     make place = record { chain = place; number = entry.number }
 
-    some_is : {a b : Step} → ◌≡◌ {A = Option Step} (Some a) (Some b) → a ≡ b
-    some_is e = cc
-
     by_place : (o : Option ℕ) → position (is_named entry.chain) t.chains ≡ o → ◌≡◌ {A = Option Step} (option_map make o) (Some step) → entry ≡ entry_of t.chains step
-    by_place None at e = absurd (none_some e)
-      where
-        none_some : ◌≡◌ {A = Option Step} None (Some step) → ⊥
-        none_some e = cc
+    by_place None at e = absurd (none-some step e)
     by_place (Some place) at e =
-        let is : make place ≡ step = some_is e in
+        let is : make place ≡ step = same_Some (make place) step e in
         let placed : IsPlaced t entry.chain place = placed_at t entry.chain place at in
         let named : entry.chain ≡ name_at t.chains place = sym (placed.named (empty_chain [])) in
         let build : List ℕ → ℕ → Entry = λ n k. record { chain = n; number = k } in
@@ -173,30 +161,19 @@ walks_over t walked trail step shows on =
 
 -- ---- what a filter keeps
 
-passes : {X : Type 0} (p : X → Bool) (xs : List X) → All (λ x. p x ≡ true) (filter p xs)
-passes p [] = All-nil (λ x. p x ≡ true)
-passes {X} p (x ∷ xs) =
-    let P : List X → Type 0 = λ l. All (λ y. p y ≡ true) l in
-    elim (cases_Bool (p x)) [
-      | inl h ↦ subst P (sym (cond-true (p x) (x ∷ filter p xs) (filter p xs) h)) (All-cons (λ y. p y ≡ true) x (filter p xs) h (passes p xs))
-      | inr un ↦ subst P (sym (cond-false (p x) (x ∷ filter p xs) (filter p xs) un)) (passes p xs)
-    ]
-
 kept_of : {X : Type 0} (p : X → Bool) (xs : List X) (x : X) → Contains (filter p xs) x → Contains xs x × (p x ≡ true)
 kept_of {X} p xs x on =
-    (All-contains (λ (y : X). Contains xs y) (filter p xs) x (All-filter p (λ (y : X). Contains xs y) xs (λ k d lt. Contains-get_or xs k d lt)) on, All-contains (λ (y : X). p y ≡ true) (filter p xs) x (passes p xs) on)
+    (All-contains (λ (y : X). Contains xs y) (filter p xs) x (All-filter p (λ (y : X). Contains xs y) xs (λ k d lt. Contains-get_or xs k d lt)) on, All-contains (λ (y : X). p y ≡ true) (filter p xs) x (filter_passes p xs) on)
 
 first_of : {X : Type 0} (p : X → Bool) (x : X) (xs : List X) → p x ≡ true → Contains (filter p (x ∷ xs)) x
 first_of {X} p x xs h =
-    let P : List X → Type 0 = λ l. Contains l x in
-    subst P (sym (cond-true (p x) (x ∷ filter p xs) (filter p xs) h)) (0, omega arith, refl)
+    rw (cond-true (p x) (x ∷ filter p xs) (filter p xs) h) (0, omega arith, refl)
 
 later_of : {X : Type 0} (p : X → Bool) (x y : X) (xs : List X) → Contains (filter p xs) y → Contains (filter p (x ∷ xs)) y
 later_of {X} p x y xs (k, lt, is) =
-    let P : List X → Type 0 = λ l. Contains l y in
     elim (cases_Bool (p x)) [
-      | inl h ↦ subst P (sym (cond-true (p x) (x ∷ filter p xs) (filter p xs) h)) (suc k, omega (arith, lt), is)
-      | inr un ↦ subst P (sym (cond-false (p x) (x ∷ filter p xs) (filter p xs) un)) (k, lt, is)
+      | inl h ↦ rw (cond-true (p x) (x ∷ filter p xs) (filter p xs) h) (suc k, omega (arith, lt), is)
+      | inr un ↦ rw (cond-false (p x) (x ∷ filter p xs) (filter p xs) un) (k, lt, is)
     ]
 
 pub keeps : {X : Type 0} (p : X → Bool) (xs : List X) (x : X) → Contains xs x → p x ≡ true → Contains (filter p xs) x
@@ -224,9 +201,8 @@ last_kept p [] h = refl
 last_kept p (x ∷ []) h = ap (λ ys. slice_get ys (length ys - 1)) (cond-true (p x) (x ∷ []) [] h)
 last_kept {X} p (x ∷ y ∷ xs) h =
     let rest : List X = filter p (y ∷ xs) in
-    let P : Option X → Type 0 = λ o. IfSome o (λ z. IsTrue (p z)) in
     let later = later_last x (y ∷ xs) (omega arith) in
-    let same : slice_get rest (length rest - 1) ≡ slice_get (y ∷ xs) (length (y ∷ xs) - 1) = last_kept p (y ∷ xs) (subst P later h) in
+    let same : slice_get rest (length rest - 1) ≡ slice_get (y ∷ xs) (length (y ∷ xs) - 1) = last_kept p (y ∷ xs) (rw later at h) in
     let last : List X → Option X = λ ys. slice_get ys (length ys - 1) in
     elim (cases_Bool (p x)) [
       | inl t ↦ (

@@ -1,6 +1,6 @@
 -- What a packet carries behind the header of IP.
-use Rattle.std.proofs.Common.{◌≡◌, ◌⊎◌, ℕ, ◌+◌, ◌<◌, ◌≤◌, Bool, true, false, ◌&&◌, ◌||◌, not, ◌==◌, List, get_or, refl, sym, ◌∙◌, ap, arith, subst, inl, inr}
-use Rattle.std.proofs.lemmas.Bool.{cases_Bool, cases_eq, eq-eqb, eqb-true, true≢false}
+use Rattle.std.proofs.Common.{◌≡◌, ◌⊎◌, ℕ, ◌+◌, ◌<◌, ◌≤◌, Bool, true, false, ◌&&◌, ◌||◌, not, ◌==◌, List, get_or, refl, sym, ◌∙◌, ap, arith, inl, inr, eq-eqb, eqb-true, true≢false}
+use Rattle.std.proofs.lemmas.Bool.{cases_Bool, cases_eq, or_parts}
 use Rattle.fields.specs.declared.numbers.field.TheConstants.{FIELDS}
 use Rattle.fields.specs.declared.numbers.field.Field.{Field}
 use Rattle.fields.specs.declared.numbers.field.Field.TheVariants as field
@@ -34,10 +34,6 @@ or_cases : (a b : Bool) → (a || b) ≡ true → (a ≡ true) ⊎ (b ≡ true)
 or_cases true b e = inl refl
 or_cases false b e = inr e
 
-or_none : (a b : Bool) → (a || b) ≡ false → (a ≡ false) × (b ≡ false)
-or_none true b e = absurd (true≢false e)
-or_none false b e = (refl, e)
-
 not_true : (b : Bool) → not b ≡ true → b ≡ false
 not_true true e = sym e
 not_true false e = refl
@@ -48,25 +44,21 @@ tests_ported x e =
       | inr d ↦ tests_at x 136 d
       | inl abc ↦ elim (or_cases (x == 17 || x == 33) (x == 132) abc) [
         | inr c ↦ tests_at x 132 c
-        | inl ab ↦ elim (or_cases (x == 17) (x == 33) ab) [
-          | inl a ↦ tests_at x 17 a
-          | inr b ↦ tests_at x 33 b
-        ]
+        | inl ab ↦ elim (or_cases (x == 17) (x == 33) ab) [ inl a ↦ tests_at x 17 a | inr b ↦ tests_at x 33 b ]
       ]
     ]
 
 tests_other : (x : ℕ) → not (is_ported x || x == 6 || x == 1) ≡ true → Tests x false false false
 tests_other x e =
-    let n = or_none (is_ported x || x == 6) (x == 1) (not_true (is_ported x || x == 6 || x == 1) e) in
-    let m = or_none (is_ported x) (x == 6) n.0 in
-    let d = or_none (x == 17 || x == 33 || x == 132) (x == 136) m.0 in
-    let c = or_none (x == 17 || x == 33) (x == 132) d.0 in
-    let b = or_none (x == 17) (x == 33) c.0 in
+    let n = or_parts (is_ported x || x == 6) (x == 1) (not_true (is_ported x || x == 6 || x == 1) e) in
+    let m = or_parts (is_ported x) (x == 6) n.0 in
+    let d = or_parts (x == 17 || x == 33 || x == 132) (x == 136) m.0 in
+    let c = or_parts (x == 17 || x == 33) (x == 132) d.0 in
+    let b = or_parts (x == 17) (x == 33) c.0 in
     record { ported = five m.1 b.0 b.1 c.1 d.1; is_tcp = m.1; is_icmp = n.1 }
   where
     five : {a b c d f : Bool} → a ≡ false → b ≡ false → c ≡ false → d ≡ false → f ≡ false → (a || b || c || d || f) ≡ false
-    five {a} {b} {c} {d} {f} p q r s t =
-        ap (λ v. v || b || c || d || f) p ∙ ap (λ v. v || c || d || f) q ∙ ap (λ v. v || d || f) r ∙ ap (λ v. v || f) s ∙ t
+    five {a} {b} {c} {d} {f} p q r s t = ap (λ v. v || b || c || d || f) p ∙ ap (λ v. v || c || d || f) q ∙ ap (λ v. v || d || f) r ∙ ap (λ v. v || f) s ∙ t
 
 -- a further fragment carries nothing of it
 and_never : (b : Bool) (frag : ℕ) → frag ≡ 1 → (b && (frag == 0)) ≡ false
@@ -184,24 +176,20 @@ module _ (t : Transport) (before old new : List SpanSet) (i : ℕ) (f : Field) (
         elim (cases_eq k i) [
           | inr ne ↦ below.with numbers point (narrowed.own numbers point h) k d (omega (arith, ne, lt))
           | inl e ↦ (
-              let P : ℕ → Type 0 = λ j. fits t (get_or all_fields j d) (number_on numbers (get_or all_fields j d)) ≡ true in
-              let Q : Field → Type 0 = λ g. fits t g (number_on numbers g) ≡ true in
-              subst P (sym e) (subst Q (sym (at d)) (sym (is.members (number_on numbers f) (point f)) ∙ narrowed.members numbers point h)))
+              rw (← e) at (rw (← at d) at (sym (is.members (number_on numbers f) (point f)) ∙ narrowed.members numbers point h)))
         ]);
   }
     where
       here : (numbers : List ℕ) → IsPoint numbers → fits t (get_or all_fields i f) (number_on numbers (get_or all_fields i f)) ≡ true → has wanted.intervals (number_on numbers f) ≡ true
       here numbers point h =
-          let Q : Field → Type 0 = λ g. fits t g (number_on numbers g) ≡ true in
-          is.members (number_on numbers f) (point f) ∙ subst Q (at f) h
+          is.members (number_on numbers f) (point f) ∙ (rw (at f) at h)
 
 pub with_end : (t : Transport) (before after : List SpanSet) (i : ℕ) → FIELDS ≤ i → IsWithBelow t i before after → IsWithTransport t before after
 with_end t before after i le h = record {
   all = λ numbers point own fit. h.all numbers point own (λ k d lt. fit (get_or all_fields k d));
   own = h.own;
   with = λ numbers point own f. (
-      let Q : Field → Type 0 = λ g. fits t g (number_on numbers g) ≡ true in
-      subst Q (here_is f f) (h.with numbers point own (index f) f (omega (arith, index-lt f, le))));
+      rw (here_is f f) at (h.with numbers point own (index f) f (omega (arith, index-lt f, le))));
 }
 
 -- ---- the packets that carry a key

@@ -1,8 +1,7 @@
 -- Nobody is lost on the way through the table.
-use Rattle.std.proofs.Common.{◌≡◌, inl, inr, ◌⊎◌, ℕ, zero, suc, ◌+◌, ◌-◌, ◌<◌, ◌≤◌, Bool, true, false, cond, List, [], ◌∷◌, ◌++◌, length, get_or, take, map, refl, sym, ◌∙◌, ap, arith, subst, Option, Some, None, All, Contains}
-use Rattle.std.specs.Prelude.{Any, IfSome, IsTrue, slice_get}
+use Rattle.std.proofs.Common.{◌≡◌, inl, inr, ◌⊎◌, ℕ, zero, suc, ◌+◌, ◌-◌, ◌<◌, ◌≤◌, Bool, true, false, cond, List, [], ◌∷◌, ◌++◌, length, get_or, take, map, refl, sym, ◌∙◌, ap, arith, subst, Option, Some, None, All, Contains, Any, IfSome, IsTrue, slice_get, true≢false}
 use Rattle.std.specs.List.{list_any, position}
-use Rattle.std.proofs.lemmas.Bool.{cases_Bool, cond-false, or_parts, true≢false}
+use Rattle.std.proofs.lemmas.Bool.{cases_Bool, cond-false, or_parts}
 use Rattle.std.proofs.lemmas.List.{reverse-append}
 use Rattle.std.proofs.lemmas.List.Elements.{All-nil, All-cons, All-push, Contains-append_left, Contains-push, Contains-push_cases, Contains-get_or}
 use Rattle.std.proofs.lemmas.Option.{slice_get_past, slice_get-get_or}
@@ -57,14 +56,12 @@ reaches_more t p mid next r s = (suc r.0, goes_more r.0 t.chains (end_verdict t 
 pub any_kept : {X : Type 0} (P : X → Type 0) (xs ys zs : List X) → zs ≡ xs ++ ys → Any P xs → Any P zs
 any_kept {X} P xs ys zs e a =
     let c : Contains (xs ++ ys) a.1 = Contains-append_left xs ys a.1 (a.0, a.2, a.3) in
-    let Q : List X → Type 0 = λ l. Any P l in
-    subst Q (sym e) (c.0, a.1, c.1, c.2, a.4)
+    rw e (c.0, a.1, c.1, c.2, a.4)
 
 pub any_last : {X : Type 0} (P : X → Type 0) (xs : List X) (x : X) (zs : List X) → zs ≡ xs ++ x ∷ [] → P x → Any P zs
 any_last {X} P xs x zs e h =
     let c : Contains (xs ++ x ∷ []) x = Contains-push xs x in
-    let Q : List X → Type 0 = λ l. Any P l in
-    subst Q (sym e) (c.0, x, c.1, c.2, h)
+    rw e (c.0, x, c.1, c.2, h)
 
 pub any_same : {X : Type 0} (P : X → Type 0) (xs zs : List X) → zs ≡ xs → Any P xs → Any P zs
 any_same {X} P xs zs e a = let Q : List X → Type 0 = λ l. Any P l in subst Q (sym e) a
@@ -100,10 +97,7 @@ module _ (t : Table) (known : Known) (policy : Verdict) (old new : Front) where
     surely : (leaf.by_policy ≡ false → Agrees known.holds leaf.answers → IsLastMet known leaf.trail.items) → IsSurely known leaf
     surely met agrees =
         let P : Bool → Type 0 = λ b. IfSome (cond b None (slice_get leaf.trail.items (length leaf.trail.items - 1))) (λ step. IsTrue (is_met known step)) in
-        elim (cases_Bool leaf.by_policy) [
-          | inl t ↦ subst P (sym t) tt
-          | inr f ↦ subst P (sym f) (met f agrees)
-        ]
+        elim (cases_Bool leaf.by_policy) [ inl t ↦ subst P (sym t) tt | inr f ↦ subst P (sym f) (met f agrees) ]
 
     pub leaf_moves : (leaf.by_policy ≡ false → Agrees known.holds leaf.answers → IsLastMet known leaf.trail.items) → Moves t known policy (scope_of leaf) (Over (walked_by known t.chains leaf)) old new
     leaf_moves met = record {
@@ -151,16 +145,14 @@ module _ (t : Table) (known : Known) (policy : Verdict) (scope : Scope) (old new
   pub pushed_moves : (rests more : List Pending) (at : Pending) (es : List Entry) → more ≡ rests ++ at ∷ [] → IsThere t.chains at → All (IsThere t.chains) rests
       → (All (IsThere t.chains) more → Moves t known policy scope (Under (rests_of t.chains more) es) old new) → Moves t known policy scope (Under (rest_of t.chains at ∷ rests_of t.chains rests) es) old new
   pushed_moves rests more at es e there all h =
-      let Q : List Pending → Type 0 = λ ps. All (IsThere t.chains) ps in
-      let there_now : All (IsThere t.chains) more = subst Q (sym e) (All-push (IsThere t.chains) rests at all there) in
+      let there_now : All (IsThere t.chains) more = rw (← e) at (All-push (IsThere t.chains) rests at all there) in
       moves_same (Under (rests_of t.chains more) es) (Under (rest_of t.chains at ∷ rests_of t.chains rests) es) (ap (λ (rs : List Rest). Under rs es) (ap (rests_of t.chains) e ∙ rests_push t.chains rests at)) (h there_now)
 
   -- below another rest
   pub pushed_below : (top : Rest) (rests more : List Pending) (at : Pending) (es : List Entry) → more ≡ rests ++ at ∷ [] → IsThere t.chains at → All (IsThere t.chains) rests
       → (All (IsThere t.chains) more → Moves t known policy scope (Under (top ∷ rests_of t.chains more) es) old new) → Moves t known policy scope (Under (top ∷ rest_of t.chains at ∷ rests_of t.chains rests) es) old new
   pushed_below top rests more at es e there all h =
-      let Q : List Pending → Type 0 = λ ps. All (IsThere t.chains) ps in
-      let there_now : All (IsThere t.chains) more = subst Q (sym e) (All-push (IsThere t.chains) rests at all there) in
+      let there_now : All (IsThere t.chains) more = rw (← e) at (All-push (IsThere t.chains) rests at all there) in
       moves_same (Under (top ∷ rests_of t.chains more) es) (Under (top ∷ rest_of t.chains at ∷ rests_of t.chains rests) es) (ap (λ (rs : List Rest). Under (top ∷ rs) es) (ap (rests_of t.chains) e ∙ rests_push t.chains rests at)) (h there_now)
 
   -- by what the target is
@@ -207,8 +199,7 @@ passed_next t known policy p boxes left scope stage old new e asked reaches h (i
 -- a box that is taken out of some was one of them, and the others were, too
 pub some_before : (boxes left : List (List SpanSet)) (box : List SpanSet) (numbers : List ℕ) → boxes ≡ left ++ box ∷ [] → IsInSome left numbers ⊎ Has box numbers → IsInSome boxes numbers
 some_before boxes left box numbers e h =
-    let P : List (List SpanSet) → Type 0 = λ bs. IsInSome bs numbers in
-    subst P (sym e) (elim h [
+    rw e (elim h [
       | inl some ↦ (some.0, Contains-append_left left (box ∷ []) some.0 some.1, some.2)
       | inr here ↦ (box, Contains-push left box, here)
     ])
@@ -216,11 +207,7 @@ some_before boxes left box numbers e h =
 -- the only box
 pub only_one : (box : List SpanSet) (numbers : List ℕ) → IsInSome (box ∷ []) numbers → Has box numbers
 only_one box numbers (other, on, has) =
-    let P : List SpanSet → Type 0 = λ b. Has b numbers in
-    elim (Contains-push_cases [] box other on) [
-      | inl none ↦ absurd (omega (arith, none.1))
-      | inr same ↦ subst P (sym same) has
-    ]
+    elim (Contains-push_cases [] box other on) [ inl none ↦ absurd (omega (arith, none.1)) | inr same ↦ rw (← same) at has ]
 
 -- ---- the next rule
 

@@ -1,7 +1,5 @@
 -- The walks of one packet, for all assignments, and those that may come to a rule.
-use Rattle.std.proofs.Common.{◌≡◌, inl, inr, ℕ, Bool, ◌&&◌, true, false, List, get_or, refl, ◌∙◌, ap, arith, subst, sym, Option, Some, None, All, Vec, Global, Ok, Contains}
-use Rattle.std.specs.Prelude.{IfSome, MatchOption, filter, nat_le, Any}
-use Rattle.std.proofs.lemmas.Bool.{true≢false}
+use Rattle.std.proofs.Common.{◌≡◌, inl, inr, ℕ, Bool, ◌&&◌, true, false, List, get_or, refl, ◌∙◌, ap, arith, subst, sym, Option, Some, None, All, Vec, Global, Ok, Contains, IfSome, MatchOption, filter, nat_le, Any, true≢false}
 use Rattle.std.proofs.lemmas.Bool.Decides.{leb_tells}
 use Rattle.std.proofs.lemmas.List.Elements.{All-filter, filter_passes}
 use Rattle.classify.specs.Classifier.{box_matches, box_allows}
@@ -102,10 +100,6 @@ itself_within n x is =
 same_in : (box : List SpanSet) (xs ys : List ℕ) → ((f : Field) → number_on xs f ≡ number_on ys f) → Has box xs → Has box ys
 same_in box xs ys same has = from_fields box ys (λ f. let P : ℕ → Type 0 = λ n. box_allows box f n ≡ true in subst P (same f) (on_field box xs f has.each))
 
--- a packet of a box that has only one is in the boxes in which that one is
-pub only_in : (own box : List SpanSet) (p q : Packet) → IsAtHook p → IsAtHook q → IsOnly own p → IsIn own q → IsIn box q → IsIn box p
-only_in own box p q can too only here has = same_in box q.values p.values (λ f. only.only q.values (point_of q too) here f ∙ sym (only.only p.values (point_of p can) only.inside f)) has
-
 -- a copy of such a box is one, too
 pub only_of : (own copy : List SpanSet) (p : Packet) → IsAtHook p → IsOnly own p → IsBoth own own copy → IsOnly copy p
 only_of own copy p can only both = record { inside = both.all p.values (point_of p can) only.inside only.inside; only = λ numbers point has f. only.only numbers point (both.first numbers point has) f }
@@ -132,7 +126,7 @@ module _ (s : Subject) (sound : IsSound (table_of s)) (step : Step) (is : IsRule
       let On : Walked → Type 0 = λ (w : Walked). Contains w.trail (entry_of (answered s a).chains step) in
       let (trail, met) = step_by (answered s a) (known_by s a) leaf.trail.items step (left_sound s.needs.now a (table_of s) sound) (there_left s.needs.now a (table_of s) step.chain is.chain) (subst On ends.walked on) in
       let Gone : Leaf → Type 0 = IsGone (needs_of s.needs.now step) step p in
-      let never = subst Gone same (gone k leaf lt) (only_in start.area leaf.area p q can too only here ends.own.inside) in
+      let never = subst Gone same (gone k leaf lt) (same_in leaf.area q.values p.values (λ f. only.only q.values (point_of q too) here f ∙ sym (only.only p.values (point_of p can) only.inside f)) ends.own.inside) in
       true≢false (sym met ∙ never trail a ends.own.agrees)
 
   -- so all packets of a way are taken on, but those of the packet's own box, none of which comes

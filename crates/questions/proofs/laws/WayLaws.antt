@@ -1,13 +1,12 @@
 -- The rules that name a chain, those by which packets come into the marked chains, and ways that are tried, one after another.
-use Rattle.std.proofs.Common.{◌≡◌, inl, inr, ℕ, ◌+◌, ◌<◌, ◌≤◌, Bool, true, false, List, [], ◌∷◌, ◌++◌, length, refl, sym, ◌∙◌, ap, arith, subst, Option, Some, None, All, Contains, IsTrue, zero, suc, ◌-◌, get_or}
-use Rattle.std.specs.Prelude.{◌==◌, ◌&&◌, ◌||◌}
+use Rattle.std.proofs.Common.{◌≡◌, inl, inr, ℕ, ◌+◌, ◌<◌, ◌≤◌, Bool, true, false, List, [], ◌∷◌, ◌++◌, length, refl, sym, ◌∙◌, ap, arith, subst, Option, Some, None, All, Contains, zero, suc, ◌-◌, get_or, ◌==◌, ◌&&◌, eq-eqb, eqb-true, true≢false, append-nil, append_assoc}
+use Rattle.std.proofs.lemmas.Option.{same_Some}
 use Rattle.std.specs.List.{list_any, position, list_all}
-use Rattle.std.proofs.lemmas.Bool.{and_parts, cases_eq, eq-eqb, eqb-true, true≢false, cases_Bool}
+use Rattle.std.proofs.lemmas.Bool.{and_parts, cases_eq, cases_Bool, or_left, or_right}
 use Rattle.std.proofs.lemmas.List.Folds.{Any-from_list_any, list_any-append}
 use Rattle.std.proofs.lemmas.Slice.Eq.{bytes_eq-Decides}
 use Rattle.std.proofs.lemmas.List.Elements.{Contains-get_or, All-append, All-contains, All-nil, All-push}
 use Rattle.std.proofs.Math.Numerals.{add-one}
-use Rattle.std.proofs.lemmas.List.{append-nil, append_assoc}
 use Rattle.rules.specs.rule.Actions.{target_of}
 use Rattle.table.specs.chains.Sound.{IsSound}
 use Rattle.table.specs.chains.Table.{Table, chain_at, empty_chain, is_named, Chain}
@@ -25,42 +24,28 @@ use Rattle.fields.specs.numbers.Spans.{SpanSet}
 use Rattle.fields.specs.Packet.{PacketView as Packet}
 use Rattle.questions.specs.Ends.{IsRule, rule_at}
 use Rattle.questions.specs.Leaves.{name_at}
-use Rattle.questions.specs.boxes.Calls.{AreCalls, IsCall, IsCalled, IsCalledIn, is_call, place_named}
+use Rattle.questions.specs.boxes.Calls.{AreCalls, IsCalled, is_call, place_named}
 use Rattle.questions.specs.declared.seeking.calls.Call.{Call}
 use Rattle.questions.specs.asked.Reason.{Enters, IsExcluded}
-use Rattle.questions.specs.steps.Leading.{AreSpread, IsMarked, IsMarkedName, PathBy, ShareNumbers, IsOpen, IsWay, marked_names}
+use Rattle.questions.specs.steps.Leading.{AreSpread, IsMarked, IsMarkedName, ShareNumbers, IsOpen, IsWay, marked_names}
 use Rattle.questions.specs.steps.Candidates.{AddsRules}
 use Rattle.questions.specs.Scopes.{Whole}
 use Rattle.questions.specs.boxes.Boxes.{Has, IsIn, IsNarrower}
 use Rattle.questions.specs.boxes.Cut.{IsInSome, AreMet}
-use Rattle.questions.specs.declared.foreign.answers.Answer.{Answer}
 use Rattle.questions.specs.declared.seeking.way.Way.{Way}
 use Rattle.questions.specs.declared.walking.scope.Scope.{Scope}
-use Rattle.questions.specs.steps.Seeking.{IsBoxUnder, IsForOne, AddsBoxes, AddsWays, AreTries, IsLess, IsTry, IsWayFor}
+use Rattle.questions.specs.steps.Seeking.{IsBoxUnder, IsForOne, AddsWays, AreTries, IsLess, IsTry, IsWayFor}
 use Rattle.questions.proofs.laws.TrailLaws.{none_some, one_place}
 use Rattle.questions.proofs.laws.BoxesLaws.{AreAll, AreBefore, adds_as, rule_last}
 use Rattle.questions.proofs.laws.WaitLaws.{named_first}
 use Rattle.questions.proofs.laws.AreaLaws.{on_field}
 
--- ---- The rules that name a chain, and those by which packets come into the marked chains, one after another.
-
 -- ---- The rules that name a chain, listed one after another.
-
-or_true : (a b : Bool) → a ≡ true → (a || b) ≡ true
-or_true true b h = refl
-or_true false b h = absurd (ne h)
-  where
-    ne : false ≡ true → ⊥
-    ne e = cc
-
-or_last : (a b : Bool) → b ≡ true → (a || b) ≡ true
-or_last true b h = refl
-or_last false b h = h
 
 -- what is listed stays
 pub still_called : (t : Table) (calls new more : List Call) (by : Step) → new ≡ calls ++ more → IsCalled t calls by → IsCalled t new by
 still_called t calls new more by e h to is names =
-    ap (list_any (is_call to by)) e ∙ list_any-append (is_call to by) calls more ∙ or_true (list_any (is_call to by) calls) (list_any (is_call to by) more) (h to is names)
+    ap (list_any (is_call to by)) e ∙ list_any-append (is_call to by) calls more ∙ or_left (list_any (is_call to by) calls) (list_any (is_call to by) more) (h to is names)
 
 -- a call is the one that it is told to be
 call_is : (to : ℕ) (by : Step) (call : Call) → is_call to by call ≡ true → call ≡ record { to = to; by = by }
@@ -75,8 +60,7 @@ call_is to by call t =
 pub listed : (t : Table) (calls : List Call) (by : Step) (to : ℕ) → AreCalls t calls → IsRule t by → place_named t.chains (target_of (rule_at t by)) ≡ Some to → Contains calls (record { to = to; by = by })
 listed t calls by to all is names =
     let any = Any-from_list_any (is_call to by) calls (all.all by to is names) in
-    let P : Call → Type 0 = λ c. Contains calls c in
-    subst P (call_is to by any.1 any.4) (any.0, any.2, any.3)
+    rw (← call_is to by any.1 any.4) (any.0, any.2, any.3)
 
 -- the place of a chain's own name
 pub own_position : (t : Table) (k : ℕ) (name : List ℕ) → IsSound t → k < length t.chains → name_at t.chains k ≡ name → position (is_named name) t.chains ≡ Some k
@@ -86,19 +70,12 @@ own_position t k name s lt e = by_case (position (is_named name) t.chains) refl
     by_case None none = absurd (true≢false (sym (has_at t.chains name k (empty_chain []) lt ((bytes_eq-Decides (name_at t.chains k) name).1 e)) ∙ any_none (is_named name) t.chains none))
     by_case (Some j) is = is ∙ ap Some (one_place t j k s lt ((placed_at t name j is).named (empty_chain []) ∙ sym e))
 
-is_own : (to : ℕ) (by : Step) → list_any (is_call to by) (record { to = to; by = by } ∷ []) ≡ true
-is_own to by = rw (eq-eqb to to refl, eq-eqb by.chain by.chain refl, eq-eqb by.number by.number refl)
-
-some_same : (a b : ℕ) → ◌≡◌ {A = Option ℕ} (Some a) (Some b) → a ≡ b
-some_same a b e = cc
-
 -- a rule that is listed
 pub now_called : (t : Table) (calls new : List Call) (by : Step) (to : ℕ) → new ≡ calls ++ record { to = to; by = by } ∷ [] → place_named t.chains (target_of (rule_at t by)) ≡ Some to → IsCalled t new by
 now_called t calls new by to e own other is names =
-    let same : to ≡ other = some_same to other (sym own ∙ names) in
-    let P : ℕ → Type 0 = λ k. IsTrue (list_any (is_call k by) new) in
+    let same : to ≡ other = same_Some to other (sym own ∙ names) in
     let mine : List Call = record { to = to; by = by } ∷ [] in
-    subst P same (ap (list_any (is_call to by)) e ∙ list_any-append (is_call to by) calls mine ∙ or_last (list_any (is_call to by) calls) (list_any (is_call to by) mine) (is_own to by))
+    rw same at (ap (list_any (is_call to by)) e ∙ list_any-append (is_call to by) calls mine ∙ or_right (list_any (is_call to by) calls) (list_any (is_call to by) mine) (rw (eq-eqb to to refl, eq-eqb by.chain by.chain refl, eq-eqb by.number by.number refl)))
 
 -- one that names no chain is listed as it has to be
 pub not_called : (t : Table) (calls : List Call) (by : Step) → place_named t.chains (target_of (rule_at t by)) ≡ None → IsCalled t calls by
@@ -119,25 +96,10 @@ called_next t place count old new kept here below by at le =
           subst P (sym same) here)
     ]
 
-pub none_called : (t : Table) (place : ℕ) (calls : List Call) → AreCalledBelow t place 0 calls
-none_called t place calls by at le to is names = absurd (omega (arith, le, is.first))
-
 pub all_called : (t : Table) (place count : ℕ) (calls : List Call) → length (chain_at t place).rules ≤ count → AreCalledBelow t place count calls → (by : Step) → by.chain ≡ place → IsCalled t calls by
 all_called t place count calls all below by at to is names =
-    let P : ℕ → Type 0 = λ k. by.number ≤ length (chain_at t k).rules in
-    let within : by.number ≤ length (chain_at t place).rules = subst P at is.last in
+    let within : by.number ≤ length (chain_at t place).rules = rw (at) at is.last in
     below by at (omega (arith, within, all)) to is names
-
--- chain after chain
-pub chains_called : (t : Table) (place : ℕ) (old new : List Call) → IsCalledIn t place old new → ((by : Step) → by.chain < place → IsCalled t old by) → (by : Step) → by.chain < place + 1 → IsCalled t new by
-chains_called t place old new adds before by lt =
-    elim (cases_eq by.chain place) [
-      | inl e ↦ adds.added by e
-      | inr ne ↦ adds.kept by (before by (omega (arith, ne, lt)))
-    ]
-
-pub all_chains_called : (t : Table) (place : ℕ) (calls : List Call) → length t.chains ≤ place → ((by : Step) → by.chain < place → IsCalled t calls by) → All (IsCall t) calls → AreCalls t calls
-all_chains_called t place calls all before only = record { all = λ by to is names. before by (omega (arith, is.chain, all)) to is names; only = only }
 
 -- ---- The rules by which packets come into the marked chains, one after another.
 
@@ -180,8 +142,7 @@ module _ (t : Table) (marks : List Bool) where
   -- of a chain that isn't marked
   pub ways_in : (place : ℕ) (old new : List Step) → get_or marks place false ≡ false → AddsRules (IsWay t marks) place old new → AddsRules IsWayIn place old new
   ways_in place old new off adds =
-      let P : ℕ → Type 0 = λ k. get_or marks k false ≡ false in
-      adds_as (IsWay t marks) IsWayIn place old new (λ by at way. (subst P (sym at) off, way)) (λ by at way. way.1) adds
+      adds_as (IsWay t marks) IsWayIn place old new (λ by at way. (rw (← at) at off, way)) (λ by at way. way.1) adds
 
   -- a marked chain has none
   pub none_in : (place : ℕ) → IsMarked marks place → (by : Step) → by.chain ≡ place → IsWayIn by → ⊥
@@ -194,16 +155,14 @@ module _ (t : Table) (step : Step) (marks : List Bool) (s : IsSound t) (is : IsR
   name_on : (j : ℕ) → j < length t.chains → Contains (marked_names t.chains marks) (name_at t.chains j) → IsMarked marks j
   name_on j lt c =
       let w = marked_is t.chains marks (name_at t.chains j) c in
-      let P : ℕ → Type 0 = λ k. IsMarked marks k in
-      subst P (one_place t w.0 j s lt w.3) w.2
+      rw (one_place t w.0 j s lt w.3) at w.2
 
   -- a path from a built-in chain whose rules all allow numbers that the rule allows too
   pub open_of : (hook : Hook) → IsMarked marks (hook_index hook) → IsOpen t step
   open_of hook on =
       let named = named_first t.chains hook s.listed.built_in in
       let w = spread.each (hook_index hook) named.1 on in
-      let P : List ℕ → Type 0 = λ name. PathBy t (Some (rule_at t step)) w.0 name (name_at t.chains step.chain) in
-      (hook, w.0, subst P named.0 w.1)
+      (hook, w.0, rw named.0 at w.1)
 
   -- a rule of a chain that isn't marked allows nothing that the rule allows
   apart : (by : Step) → IsWay t marks by → get_or marks by.chain false ≡ false → (numbers : List ℕ) → IsPoint numbers → matches numbers (rule_at t by) ≡ true → matches numbers (rule_at t step) ≡ true → ⊥
@@ -219,8 +178,7 @@ module _ (t : Table) (step : Step) (marks : List Bool) (s : IsSound t) (is : IsR
     own = is_among t.chains marks step.chain is.chain spread.there;
     inner = λ hook c. (
         let named = named_first t.chains hook s.listed.built_in in
-        let P : List ℕ → Type 0 = λ name. Contains (marked_names t.chains marks) name in
-        true≢false (sym (name_on (hook_index hook) named.1 (subst P (sym named.0) c)) ∙ none hook));
+        true≢false (sym (name_on (hook_index hook) named.1 (rw (← named.0) at c)) ∙ none hook));
     all = λ by enters. before by (omega (arith, enters.rule.chain, le)) (off by enters, way by enters);
     each = λ k d lt. enters (get_or ways k d) (only (get_or ways k d) (Contains-get_or ways k d lt));
     none = λ p can by enters one. (
@@ -234,19 +192,15 @@ module _ (t : Table) (step : Step) (marks : List Bool) (s : IsSound t) (is : IsR
       way by e = record { rule = e.rule; names = (e.names.0, e.names.1, marked_is t.chains marks e.names.0 e.names.2) }
 
       off : (by : Step) → Enters t (marked_names t.chains marks) by → get_or marks by.chain false ≡ false
-      off by e = elim (cases_Bool (get_or marks by.chain false)) [
-        | inl on ↦ absurd (e.outside (is_among t.chains marks by.chain e.rule.chain on))
-        | inr f ↦ f
-      ]
+      off by e = elim (cases_Bool (get_or marks by.chain false)) [ inl on ↦ absurd (e.outside (is_among t.chains marks by.chain e.rule.chain on)) | inr f ↦ f ]
 
       enters : (by : Step) → (get_or marks by.chain false ≡ false) × IsWay t marks by → Enters t (marked_names t.chains marks) by
       enters by w =
           let marked = w.1.names.2 in
-          let P : List ℕ → Type 0 = λ name. Contains (marked_names t.chains marks) name in
           record {
             rule = w.1.rule;
             outside = λ c. true≢false (sym (name_on by.chain w.1.rule.chain c) ∙ w.0);
-            names = (w.1.names.0, w.1.names.1, subst P marked.3 (is_among t.chains marks marked.0 marked.1 marked.2));
+            names = (w.1.names.0, w.1.names.1, rw marked.3 at (is_among t.chains marks marked.0 marked.1 marked.2));
           }
 
 -- ---- Ways that are tried, one after another.
@@ -286,11 +240,7 @@ tries_next n t first mid new tries one = let P : ℕ → Type 0 = λ m. AreTries
 
 some_fails : (p : Field → Bool) (fields : List Field) → list_all p fields ≡ false → (f : Field) × (p f ≡ false)
 some_fails p [] e = absurd (true≢false e)
-some_fails p (f ∷ fields) e =
-    elim (cases_Bool (p f)) [
-      | inr un ↦ (f, un)
-      | inl t ↦ some_fails p fields (sym (ap (λ b. b && list_all p fields) t) ∙ e)
-    ]
+some_fails p (f ∷ fields) e = elim (cases_Bool (p f)) [ inr un ↦ (f, un) | inl t ↦ some_fails p fields (sym (ap (λ b. b && list_all p fields) t) ∙ e) ]
 
 -- a box that lacks numbers of another one is narrower
 narrower_of : (box other : List SpanSet) (numbers : List ℕ) → IsPoint numbers → Has box numbers → (Has other numbers → ⊥) → IsNarrower box other
@@ -316,7 +266,3 @@ but_less p whole own parts scopes point there inside only all k d lt =
       inside = λ numbers at has. (only numbers at (part.area, is.area, has)).0;
       less = inl (narrower_of whole.area part.area p.values point there (λ here. (only p.values point (part.area, is.area, here)).1 inside));
     }
-
--- scopes that are put where none was
-pub boxes_under : (boxes : List (List SpanSet)) (answers : List Answer) (scopes : List Scope) → AddsBoxes boxes answers [] scopes → All (IsBoxUnder boxes answers) scopes
-boxes_under boxes answers scopes adds = subst (All (IsBoxUnder boxes answers)) (sym adds.only.1) adds.only.2

@@ -1,9 +1,8 @@
 -- A walk through a table without its dead rules.
-use Rattle.std.proofs.Common.{◌≡◌, ◌≢◌, inl, inr, ℕ, zero, suc, ◌+◌, ◌<◌, Bool, true, false, cond, List, [], ◌∷◌, ◌++◌, length, map, refl, sym, ◌∙◌, ap, arith, subst, Option, Some, None, Contains}
-use Rattle.std.specs.Prelude.{slice_get, IsTrue, IsFalse}
+use Rattle.std.proofs.Common.{◌≡◌, ◌≢◌, inl, inr, ℕ, zero, suc, ◌+◌, ◌<◌, Bool, true, false, cond, List, [], ◌∷◌, ◌++◌, length, map, refl, sym, ◌∙◌, ap, arith, subst, Option, Some, None, Contains, slice_get, IsTrue, IsFalse, length-append}
+use Rattle.std.proofs.lemmas.Option.{none-some}
 use Rattle.std.proofs.Math.Numerals.{add-one}
 use Rattle.std.proofs.lemmas.Bool.{cases_Bool, cond-true, cond-false}
-use Rattle.std.proofs.lemmas.List.{length-append}
 use Rattle.std.proofs.lemmas.List.Elements.{Contains-append_left, Contains-push}
 use Rattle.std.proofs.lemmas.Slice.Eq.{bytes_eq-Decides}
 use Rattle.fields.specs.Hook.{name as hook_name}
@@ -29,16 +28,10 @@ kept goes before zero rules = 0
 kept goes before (suc k) [] = 0
 kept goes before (suc k) (rule ∷ rules) = cond (goes (before + 1)) (kept goes (before + 1) k rules) (suc (kept goes (before + 1) k rules))
 
-some_same : (a b : Rule) → ◌≡◌ {A = Option Rule} (Some a) (Some b) → a ≡ b
-some_same a b e = cc
-
-none_some : (a : Rule) → ◌≡◌ {A = Option Rule} None (Some a) → ⊥
-none_some a e = cc
-
 module _ (goes : ℕ → Bool) where
   -- the rule at a place goes: as many stay before it as behind it
   pub gone : (before k : ℕ) (rules : List Rule) (rule : Rule) → slice_get rules k ≡ Some rule → goes (before + k + 1) ≡ true → kept goes before (suc k) rules ≡ kept goes before k rules
-  gone before k [] rule at is = absurd (none_some rule at)
+  gone before k [] rule at is = absurd (none-some rule at)
   gone before zero (r ∷ rs) rule at is = cond-true (goes (before + 1)) _ _ (ap goes (omega arith) ∙ is)
   gone before (suc k) (r ∷ rs) rule at is =
       let later : kept goes (before + 1) (suc k) rs ≡ kept goes (before + 1) k rs = gone (before + 1) k rs rule at (ap goes (omega arith) ∙ is) in
@@ -46,7 +39,7 @@ module _ (goes : ℕ → Bool) where
 
   -- it stays: behind those that stay before it
   pub there : (before k : ℕ) (rules : List Rule) (rule : Rule) → slice_get rules k ≡ Some rule → goes (before + k + 1) ≡ false → slice_get (staying goes before rules) (kept goes before k rules) ≡ Some rule
-  there before k [] rule at un = absurd (none_some rule at)
+  there before k [] rule at un = absurd (none-some rule at)
   there before zero (r ∷ rs) rule at un = ap (λ xs. slice_get xs 0) (cond-false (goes (before + 1)) _ _ (ap goes (omega arith) ∙ un)) ∙ at
   there before (suc k) (r ∷ rs) rule at un =
       let later : slice_get (staying goes (before + 1) rs) (kept goes (before + 1) k rs) ≡ Some rule = there (before + 1) k rs rule at (ap goes (omega arith) ∙ un) in
@@ -57,7 +50,7 @@ module _ (goes : ℕ → Bool) where
 
   -- and one more stays with it
   pub one_more : (before k : ℕ) (rules : List Rule) (rule : Rule) → slice_get rules k ≡ Some rule → goes (before + k + 1) ≡ false → kept goes before (suc k) rules ≡ suc (kept goes before k rules)
-  one_more before k [] rule at un = absurd (none_some rule at)
+  one_more before k [] rule at un = absurd (none-some rule at)
   one_more before zero (r ∷ rs) rule at un = cond-false (goes (before + 1)) _ _ (ap goes (omega arith) ∙ un)
   one_more before (suc k) (r ∷ rs) rule at un =
       let later : kept goes (before + 1) (suc k) rs ≡ suc (kept goes (before + 1) k rs) = one_more (before + 1) k rs rule at (ap goes (omega arith) ∙ un) in
@@ -70,7 +63,7 @@ module _ (goes : ℕ → Bool) where
   pub none_left : (before k : ℕ) (rules : List Rule) → slice_get rules k ≡ None → slice_get (staying goes before rules) (kept goes before k rules) ≡ None
   none_left before zero [] at = refl
   none_left before (suc k) [] at = refl
-  none_left before zero (r ∷ rs) at = absurd (none_some r (sym at))
+  none_left before zero (r ∷ rs) at = absurd (none-some r (sym at))
   none_left before (suc k) (r ∷ rs) at =
       let later : slice_get (staying goes (before + 1) rs) (kept goes (before + 1) k rs) ≡ None = none_left (before + 1) k rs at in
       elim (goes (before + 1)) as (λ b. slice_get (cond b (staying goes (before + 1) rs) (r ∷ staying goes (before + 1) rs)) (cond b (kept goes (before + 1) k rs) (suc (kept goes (before + 1) k rs))) ≡ None) [
@@ -91,15 +84,12 @@ rules_without goes (c ∷ cs) name =
 -- ---- a walk that is over
 
 module _ (cs : List Chain) (policy : Verdict) (values : List ℕ) where
-  pub over_same : (a b : Walked) → Over a ≡ Over b → a ≡ b
-  over_same a b e = cc
-
   pub under_over : (rests : List Rest) (trail : List Entry) (w : Walked) → Under rests trail ≡ Over w → ⊥
   under_over rests trail w e = cc
 
   -- it stays what it is
   pub ended : (n : ℕ) (a w : Walked) → GoesTo n cs policy values (Over a) (Over w) → a ≡ w
-  ended zero a w g = over_same a w g
+  ended zero a w g = cc
   ended (suc n) a w g = absurd g.1
 
   -- from a stage that is another one

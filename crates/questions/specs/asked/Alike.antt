@@ -8,7 +8,7 @@ use Rattle.table.specs.walk.Walk.{walk}
 use Rattle.questions.specs.Foreign.{Agrees, AreConsistent, Assignment}
 use Rattle.questions.specs.Scopes.{IsOf, answered, known_by, scope_of, table_of}
 use Rattle.questions.specs.Written.{IsSampleOf}
-use Rattle.questions.specs.asked.Verdicts.{IsAlike, IsOther, IsOtherAt, IsSame, IsSameAt}
+use Rattle.questions.specs.asked.Verdicts.{IsAlike, IsOtherAt, IsSameAt}
 use Rattle.questions.specs.boxes.Boxes.{IsAtHook}
 use Rattle.questions.specs.declared.asked.likeness.Likeness.{Likeness}
 use Rattle.questions.specs.declared.asked.likeness.Likeness.TheVariants.{Same, Differ, Unclear}
@@ -27,10 +27,6 @@ pub record AreEqual (old new : Subject) : Type 0 where
 -- whatever holds, both tables give each packet that can be at the hook the same verdict
 abbrev pub IsAlwaysSameAt : Subject → Subject → Hook → Type 0
 IsAlwaysSameAt old new hook = (a : Assignment) → IsSameAt (answered old a) (answered new a) hook
-
--- whatever holds, they give each packet that can be at its hook the same verdict
-abbrev pub IsAlwaysSame : Subject → Subject → Type 0
-IsAlwaysSame old new = (a : Assignment) → IsSame (answered old a) (answered new a)
 
 -- some assignment gives the answers, and the fact holds for each one that does
 pub record HoldsWith (answers : List Answer) (holds : Assignment → Type 0) : Type 0 where
@@ -55,12 +51,6 @@ abbrev pub IsOtherIf : Subject → Subject → Hook → Likeness → Type 0
 IsOtherIf old new hook Same = Unit {0}
 IsOtherIf old new hook (Differ words answers) = HoldsWith answers (λ a. IsOtherAt (answered old a) (answered new a) hook words)
 IsOtherIf old new hook Unclear = Unit {0}
-
--- what an answer says of two tables
-abbrev pub Says : Subject → Subject → Likeness → Type 0
-Says old new Same = IsAlwaysSame old new
-Says old new (Differ words answers) = HoldsWith answers (λ a. IsOther (answered old a) (answered new a) words)
-Says old new Unclear = Unit {0}
 
 -- whatever holds, each packet of the leaf's box that can be at the hook gets the leaf's verdict, if the leaf's answers are right
 abbrev pub IsGivenBy : Subject → Hook → Leaf → Type 0

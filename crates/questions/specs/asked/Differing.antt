@@ -88,7 +88,3 @@ abbrev pub IsUnclearIf : Type 0 → Likeness → Type 0
 IsUnclearIf may Same = Unit {0}
 IsUnclearIf may (Differ words answers) = Unit {0}
 IsUnclearIf may Unclear = may
-
--- they may differ at each hook at which they aren't the same, and at one hook at least
-abbrev pub MayDifferSomewhere : (Hook → Type 0) → (Hook → Type 0) → Type 0
-MayDifferSomewhere same may = ((hook : Hook) → same hook ⊎ may hook) × ((hook : Hook) × may hook)

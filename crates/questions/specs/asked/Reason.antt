@@ -13,7 +13,6 @@ use Rattle.table.specs.walk.Walk.{walk}
 use Rattle.table.specs.declared.verdict.Verdict.TheVariants.{TooLong}
 use Rattle.questions.specs.Ends.{IsRule, decider_of, rule_at}
 use Rattle.questions.specs.Leaves.{entry_of}
-use Rattle.questions.specs.asked.Rule.{IsDead}
 use Rattle.questions.specs.boxes.Boxes.{IsAtHook}
 use Rattle.questions.specs.boxes.Calls.{IsCall}
 use Rattle.questions.specs.declared.asked.reason.Reason.{Reason}
@@ -25,7 +24,7 @@ use Rattle.questions.specs.Scopes.{answered, table_of}
 use Rattle.questions.specs.asked.Always.{IsAlwaysDead}
 use Rattle.questions.specs.declared.foreign.subject.Subject.{Subject}
 
--- ---- Why a rule is dead.
+-- ---- What reasons speak of.
 
 -- jumps and gotos lead from the hook's chain to the rule's chain
 abbrev pub IsLed : Table → Step → Hook → Type 0
@@ -38,24 +37,11 @@ pub record IsMeantFor (t : Table) (step : Step) (p : Packet) : Type 0 where
   pub led : IsLed t step p.hook
   pub matched : matches p.values (rule_at t step) ≡ true
 
--- there is such a packet
-abbrev pub HasPacket : Table → Step → Type 0
-HasPacket t step = (p : Packet) × IsMeantFor t step p
-
 -- the packet may come to the rule's chain: walks begin there at its hook, or a rule that jumps or goes to the chain allows each of its numbers
 abbrev pub IsLetIn : Table → Step → Packet → Type 0
 IsLetIn t step p =
     (hook_name p.hook ≡ (chain_at t step.chain).name)
     ⊎ ((by : Step) × IsCall t (record { to = step.chain; by = by }) × (allows_each p.values (rule_at t by) ≡ true))
-
--- a packet that may come to its chain is meant for the rule
-abbrev pub HasLetIn : Table → Step → Type 0
-HasLetIn t step = (p : Packet) × IsMeantFor t step p × IsLetIn t step p
-
--- the packet is meant for the rule and may come to its chain; or none may, and it is meant for it
-pub record IsAtStake (t : Table) (step : Step) (p : Packet) : Type 0 where
-  pub meant : IsMeantFor t step p
-  pub near : IsLetIn t step p ⊎ (HasLetIn t step → ⊥)
 
 -- the rule allows no number that a packet can have on the field
 abbrev pub IsImpossible : Rule → Field → Type 0
@@ -81,20 +67,6 @@ IsDecidedBy t p by = decider_of (walk t p) ≡ Some (entry_of t.chains by)
 abbrev pub IsDecidedAmong : Table → Takers → Packet → Type 0
 IsDecidedAmong t takers p = (Contains takers.policies.items p.hook × IsTrue (walk t p).by_policy) ⊎ Any (IsDecidedBy t p) takers.rules.items
 
--- the policy of this hook decides a packet that is at stake
-abbrev pub IsTakenByPolicy : Table → Step → Hook → Type 0
-IsTakenByPolicy t step hook = (p : Packet) × IsAtStake t step p × (p.hook ≡ hook) × IsTrue (walk t p).by_policy
-
--- exactly the named rules and policies decide the packets that are at stake: each such packet is decided by one of them, and each of them decides such
--- a packet; the named rules are the table's, and nothing is named twice
-pub record IsTaken (t : Table) (step : Step) (takers : Takers) : Type 0 where
-  pub all : (p : Packet) → IsAtStake t step p → IsDecidedAmong t takers p
-  pub each : All (λ by. (p : Packet) × IsAtStake t step p × IsDecidedBy t p by) takers.rules.items
-  pub policies : All (IsTakenByPolicy t step) takers.policies.items
-  pub rules : All (IsRule t) takers.rules.items
-  pub once : AllPairs (λ a b. a ≡ b → ⊥) takers.rules.items
-  pub apart : AllPairs (λ a b. a ≡ b → ⊥) takers.policies.items
-
 -- a rule outside of some chains jumps or goes to one of them (iptables(8), TARGETS)
 pub record Enters (t : Table) (within : List (List ℕ)) (by : Step) : Type 0 where
   pub rule : IsRule t by
@@ -111,23 +83,7 @@ pub record IsExcluded (t : Table) (step : Step) (ways : List Step) : Type 0 wher
   pub each : All (Enters t within) ways
   pub none : (p : Packet) → IsAtHook p → (by : Step) → Enters t within by → IsTrue (matches p.values (rule_at t by)) → IsFalse (matches p.values (rule_at t step))
 
--- what a reason says of the rule, and that none before it holds: a packet that is meant for it refutes the first three; and the way to its chain is
--- open where rules lead there that allow, field by field, numbers that it allows
-abbrev pub IsReason : Table → Step → Reason → Type 0
-IsReason t step (Impossible field) = IsImpossible (rule_at t step) field
-IsReason t step Unreached = IsPossible (rule_at t step) × IsUnreached t step
-IsReason t step NoPacket = IsPossible (rule_at t step) × IsReached t step × (HasPacket t step → ⊥)
-IsReason t step (Excluded ways) = HasPacket t step × IsExcluded t step ways.items
-IsReason t step (Taken takers) = HasPacket t step × IsOpen t step × IsTaken t step takers
-
--- the rule is dead, for the first of these reasons: no packet has a number on a field that the rule allows; no jumps and gotos lead to its chain;
--- no packet is meant for it; packets come to its chain only by rules that match no packet that it matches; or exactly these rules
--- and policies decide the packets that are at stake
-pub record Explains (t : Table) (step : Step) (reason : Reason) : Type 0 where
-  pub dead : IsDead t (entry_of t.chains step)
-  pub why : IsReason t step reason
-
--- ---- Why a rule is dead in a table whose rules need something, whatever holds of the conditions that this program doesn't know.
+-- ---- Why a rule is dead, whatever holds of the conditions that this program doesn't know.
 
 -- the packet might come to the rule and would match it, and all holds that the rule needs
 pub record IsMeantUnder (subject : Subject) (a : Assignment) (step : Step) (p : Packet) : Type 0 where
@@ -166,7 +122,8 @@ pub record IsTakenUnder (subject : Subject) (step : Step) (takers : Takers) : Ty
   pub once : AllPairs (λ a b. a ≡ b → ⊥) takers.rules.items
   pub apart : AllPairs (λ a b. a ≡ b → ⊥) takers.policies.items
 
--- what a reason says of the rule, and that no reason before it holds, as `IsReason` does
+-- what a reason says of the rule, and that none before it holds: a packet that is meant for it refutes the first three; and the way to its chain is
+-- open where rules lead there that allow, field by field, numbers that it allows
 abbrev pub IsReasonUnder : Subject → Step → Reason → Type 0
 IsReasonUnder subject step (Impossible field) = IsImpossible (rule_at (table_of subject) step) field
 IsReasonUnder subject step Unreached = IsPossible (rule_at (table_of subject) step) × IsUnreached (table_of subject) step
@@ -184,10 +141,6 @@ pub record ExplainsUnder (subject : Subject) (step : Step) (reason : Reason) : T
 
 -- ---- Walks of the packets that a rule would match: where the rule is said to be dead, none is too long.
 
--- no packet that might come to the rule and would match it has a walk that is too long
-abbrev pub AreNeverTooLong : Table → Step → Type 0
-AreNeverTooLong t step = (p : Packet) → IsMeantFor t step p → (walk t p).verdict ≢ TooLong
-
--- nor does one, whatever holds, where all holds that the rule needs
+-- whatever holds, no packet that might come to the rule and would match it, and for which all holds that the rule needs, has a walk that is too long
 abbrev pub AreNeverTooLongUnder : Subject → Step → Type 0
 AreNeverTooLongUnder subject step = (a : Assignment) (p : Packet) → IsMeantUnder subject a step p → (walk (answered subject a) p).verdict ≢ TooLong

@@ -1,12 +1,10 @@
--- What the answer to a question about one rule says: dead, live or unclear.
+-- Whether a rule is dead or live.
 use Rattle.std.specs.Prelude.{◌≡◌, ℕ, List, Contains, Ok}
 use Rattle.fields.specs.declared.packet.hook.Hook.{Hook}
 use Rattle.fields.specs.Packet.{PacketView as Packet, packet_of}
 use Rattle.table.specs.chains.Table.{Table}
 use Rattle.table.specs.walk.Walk.{Entry, walk}
 use Rattle.questions.specs.boxes.Boxes.{IsAtHook}
-use Rattle.questions.specs.declared.asked.rule.Life.{Life}
-use Rattle.questions.specs.declared.asked.rule.Life.TheVariants.{Dead, Live, Unclear}
 
 -- the rule is on the walk of no packet that can be at this hook
 abbrev pub IsDeadAt : Table → Entry → Hook → Type 0
@@ -23,9 +21,3 @@ IsLive t entry words = (p : Packet) × (packet_of words ≡ Ok p) × Contains (w
 -- the rule is on the walk of a packet at this hook that these words write
 abbrev pub IsLiveAt : Table → Entry → Hook → List (List ℕ) → Type 0
 IsLiveAt t entry hook words = (p : Packet) × (packet_of words ≡ Ok p) × (p.hook ≡ hook) × Contains (walk t p).trail entry
-
--- what an answer says of a rule; an unclear one says nothing
-abbrev pub Says : Table → Entry → Life → Type 0
-Says t entry Dead = IsDead t entry
-Says t entry (Live words answers) = IsLive t entry words
-Says t entry Unclear = Unit {0}

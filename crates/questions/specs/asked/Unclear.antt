@@ -1,16 +1,14 @@
 -- Where alone an answer may be unclear, given a budget of steps.
 use Rattle.std.specs.Prelude.{◌≡◌, ◌⊎◌, ℕ, ◌<◌, List, [], ◌∷◌, ◌++◌, length, Any, Contains}
 use Rattle.fields.specs.declared.packet.hook.Hook.{Hook}
-use Rattle.fields.specs.Packet.{PacketView as Packet}
-use Rattle.table.specs.chains.Table.{Table}
+use Rattle.fields.specs.Packet.{PacketView as Packet, IsPacket}
 use Rattle.table.specs.declared.walk.trail.Step.{Step}
 use Rattle.table.specs.walk.Walk.{walk}
 use Rattle.questions.specs.Foreign.{Assignment}
 use Rattle.questions.specs.Leaves.{entry_of}
-use Rattle.questions.specs.Scopes.{Whole, all_of, left_under}
+use Rattle.questions.specs.Scopes.{Whole, left_under}
 use Rattle.questions.specs.Written.{HasNoneWritten}
-use Rattle.questions.specs.asked.Rule.{IsDeadAt}
-use Rattle.questions.specs.boxes.Boxes.{HasNumbers, IsAtHook, IsIn, IsOnly}
+use Rattle.questions.specs.boxes.Boxes.{HasNumbers, HasOwnInterfaces, IsAtHook, IsIn, IsOnly}
 use Rattle.questions.specs.declared.foreign.answers.Answer.{Answer}
 use Rattle.questions.specs.declared.asked.rule.Life.{Life}
 use Rattle.questions.specs.declared.asked.rule.Life.TheVariants as life
@@ -31,31 +29,37 @@ IsUntold t hook budget way =
     (HasNumbers way.scope.area × HasNoneWritten hook way.scope.area)
     ⊎ ((p : Packet) × IsAtHook p × (p.hook ≡ hook) × IsIn way.scope.area p × IsUnended t hook budget way.scope.answers p)
 
--- at the hook each packet that comes to the rule is one of some way's, whatever holds
-abbrev pub HaveAll : Whole → Step → Hook → List Way → Type 0
-HaveAll t step hook ways =
-    (a : Assignment) (p : Packet) → IsAtHook p → p.hook ≡ hook → Contains (walk (left_under t a) p).trail (entry_of (left_under t a).chains step)
-    → Any (λ (way : Way). IsHere a p way.scope) ways
+-- at the hook each packet of a scope that comes to the rule is one of some way's, whatever holds
+abbrev pub HaveAll : Whole → Scope → Step → Hook → List Way → Type 0
+HaveAll t start step hook ways =
+    (a : Assignment) (p : Packet) → IsAtHook p → p.hook ≡ hook → IsHere a p start
+    → Contains (walk (left_under t a) p).trail (entry_of (left_under t a).chains step) → Any (λ (way : Way). IsHere a p way.scope) ways
 
--- a packet that comes to the rule is sought in vain: after as many tries as the budget allows some way is left; or after fewer the last way can't be told.
--- No packet that comes there is lost.
-pub record IsSoughtInVain (t : Whole) (step : Step) (hook : Hook) (budget : ℕ) : Type 0 where
+-- a packet of a scope that comes to the rule is sought in vain: after as many tries as the budget allows some way is left; or after fewer the last way
+-- can't be told. No packet that comes there is lost.
+pub record IsSoughtInVain (t : Whole) (start : Scope) (step : Step) (hook : Hook) (budget : ℕ) : Type 0 where
   pub first : Way
   pub ways : List Way
-  pub begins : IsFirst t step hook first
+  pub begins : IsFirst t start step first
   pub n : ℕ
   pub tries : AreTries n t (first ∷ []) ways
-  pub all : HaveAll t step hook ways
+  pub all : HaveAll t start step hook ways
   pub vain : ((n ≡ budget) × (0 < length ways))
       ⊎ ((n < budget) × ((left : List Way) × (way : Way) × (ways ≡ left ++ way ∷ []) × IsUntold t hook budget way))
 
 -- it is sought in vain; or no numbers for the chains rule out walks that are too long
-abbrev pub MayLiveUnder : Whole → Step → Hook → ℕ → Type 0
-MayLiveUnder t step hook budget = IsSoughtInVain t step hook budget ⊎ (IsBounded t.table hook → ⊥)
+abbrev pub MayComeFrom : Whole → Scope → Step → Hook → ℕ → Type 0
+MayComeFrom t start step hook budget = IsSoughtInVain t start step hook budget ⊎ (IsBounded t.table hook → ⊥)
 
--- the same where no rule needs anything
-abbrev pub MayLive : Table → Step → Hook → ℕ → Type 0
-MayLive t step hook budget = MayLiveUnder (all_of t) step hook budget
+-- the scope has all packets at the hook, whatever holds, and only such with interfaces as these have
+pub record HasHook (hook : Hook) (scope : Scope) : Type 0 where
+  pub all : (p : Packet) → IsAtHook p → p.hook ≡ hook → IsIn scope.area p
+  pub only : (p : Packet) → IsPacket p → p.hook ≡ hook → IsIn scope.area p → HasOwnInterfaces p
+  pub unasked : scope.answers ≡ []
+
+-- that is so of all packets at the hook
+abbrev pub MayLiveUnder : Whole → Step → Hook → ℕ → Type 0
+MayLiveUnder t step hook budget = (start : Scope) × HasHook hook start × MayComeFrom t start step hook budget
 
 -- an answer about a rule at one hook is unclear only where this fact holds
 abbrev pub IsUnclearAt : Type 0 → Life → Type 0
@@ -68,7 +72,3 @@ abbrev pub IsUnclearBy : (Hook → Type 0) → (Hook → Type 0) → Life → Ty
 IsUnclearBy dead may life.Dead = Unit {0}
 IsUnclearBy dead may (life.Live words answers) = Unit {0}
 IsUnclearBy dead may life.Unclear = ((hook : Hook) → dead hook ⊎ may hook) × ((hook : Hook) × may hook)
-
--- an answer about a rule is unclear only where `MayLive` holds at each hook at which the rule isn't dead, and at one hook at least
-abbrev pub IsUnclear : Table → Step → ℕ → Life → Type 0
-IsUnclear t step budget life = IsUnclearBy (IsDeadAt t (entry_of t.chains step)) (λ hook. MayLive t step hook budget) life

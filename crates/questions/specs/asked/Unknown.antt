@@ -15,8 +15,8 @@ use Rattle.questions.specs.declared.asked.reach.Given.{Given}
 use Rattle.questions.specs.declared.foreign.subject.Subject.{Subject}
 use Rattle.questions.specs.declared.walking.scope.Scope.{Scope}
 use Rattle.questions.specs.declared.walking.task.Leaf.{Leaf}
-use Rattle.questions.specs.steps.Takers.{IsScopeBy, IsBoxBy}
-use Rattle.questions.specs.steps.Exact.{AreExactWalks, AreExactWalksUnder, IsMet}
+use Rattle.questions.specs.steps.Takers.{IsScopeBy}
+use Rattle.questions.specs.steps.Exact.{AreExactWalksUnder, IsMet}
 use Rattle.questions.specs.steps.Taken.{IsUnfinished, IsUnfinishedUnder}
 
 -- the packets can't all be walked within the budget
@@ -30,19 +30,6 @@ MetCantBeWalked t given budget = (met : Given) × IsMet given met × CantBeWalke
 -- another rule leads to the rule's chain, if one is given
 abbrev pub LeadsTo : Table → Step → Option Step → Type 0
 LeadsTo t step by = IfSome by (λ other. IsCall t (record { to = step.chain; by = other }))
-
--- the rule has a condition on both ports; or the packets that its box has at the hook, or those of them that a rule lets in which leads to its chain,
--- can't all be walked; or the rule is on the walk of some of them
-abbrev pub IsUndecidedAt : Table → Step → ℕ → Hook → Type 0
-IsUndecidedAt t step budget hook =
-    (asks_both (rule_at t step) ≡ true)
-    ⊎ ((by : Option Step) × LeadsTo t step by × (given : Given) × IsBoxBy t step by hook given
-    × (CantBeWalked t given budget
-    ⊎ ((leaves : List Leaf) × AreExactWalks t given leaves × Any (λ (leaf : Leaf). Contains leaf.trail.items step) leaves)))
-
--- `IsUndecidedAt` holds at some hook from which jumps and gotos lead to the rule's chain
-abbrev pub IsUndecided : Table → Step → ℕ → Type 0
-IsUndecided t step budget = (hook : Hook) × IsLed t step hook × IsUndecidedAt t step budget hook
 
 -- whatever holds, the packets of the scope have exactly the walks of these leaves; and the rule is on one of them
 abbrev pub IsOnSome : Subject → Hook → Scope → Step → Type 0

@@ -24,7 +24,7 @@ use Rattle.questions.specs.declared.foreign.subject.Subject.{Subject}
 use Rattle.questions.specs.declared.seeking.seen.Seen.{Seen}
 use Rattle.questions.specs.declared.seeking.way.Way.{Way}
 use Rattle.questions.specs.declared.walking.scope.Scope.{Scope}
-use Rattle.questions.specs.steps.Takers.{needs_of, IsScopeAt}
+use Rattle.questions.specs.steps.Takers.{needs_of}
 use Rattle.questions.specs.steps.Straying.{Ends, Hits, IsLedAway, IsOpenWay, LeadsAway, TakesOut, NoneTakesOut, place_at}
 use Rattle.questions.specs.boxes.Calls.{IsCall}
 use Rattle.questions.specs.steps.Answered.{IsMeeting}
@@ -124,11 +124,11 @@ AllWant step ways = All (λ (way : Way). way.wanted ≡ step) ways
 abbrev pub KeepsWanted : Way → List Way → List Way → Type 0
 KeepsWanted way old new = (step : Step) → way.wanted ≡ step → AllWant step old → AllWant step new
 
--- each packet that comes to the rule may come by one of the ways
-abbrev pub AreAllWays : Subject → Step → Hook → List Way → Type 0
-AreAllWays subject step hook ways =
-    (a : Assignment) (p : Packet) → IsAtHook p → p.hook ≡ hook → Contains (walk (answered subject a) p).trail (entry_of (answered subject a).chains step)
-    → Any (MayCome subject a p) ways
+-- each packet of a scope that comes to the rule may come by one of the ways
+abbrev pub AreAllWays : Subject → Scope → Step → Hook → List Way → Type 0
+AreAllWays subject start step hook ways =
+    (a : Assignment) (p : Packet) → IsAtHook p → p.hook ≡ hook → IsHere a p start
+    → Contains (walk (answered subject a) p).trail (entry_of (answered subject a).chains step) → Any (MayCome subject a p) ways
 
 -- no packet that may come by the ways is lost, nor one that may come by one more, at the hook
 pub record TakesOver (subject : Subject) (hook : Hook) (way : Way) (old new : List Way) : Type 0 where
@@ -178,18 +178,18 @@ AreScopesOf subject way scopes =
 abbrev pub LiesIn : Scope → Scope → Type 0
 LiesIn whole part = (numbers : List ℕ) → IsPoint numbers → Has part.area numbers → Has whole.area numbers
 
--- the first way: from the rule itself, for packets at the hook that its box has, under answers that are right where all holds that it needs
-pub record IsFirst (t : Whole) (step : Step) (hook : Hook) (way : Way) : Type 0 where
-  pub wanted : way.wanted ≡ step
-  pub own : IsScopeAt t.table t.needs step hook way.scope
-  pub places : way.places.items ≡ []
-
 -- one scope has of the packets of another those that a rule's box has, and its answers are given just where all holds that the rule needs
 pub record IsLetOn (rule : Rule) (needs : List Need) (before after : Scope) : Type 0 where
   pub box : List SpanSet
   pub own : IsBoxOf rule box
   pub area : IsBoth before.area box after.area
   pub answers : IsMeeting needs before.answers after.answers
+
+-- the first way: from the rule itself, for the packets of a scope that it lets on
+pub record IsFirst (t : Whole) (start : Scope) (step : Step) (way : Way) : Type 0 where
+  pub wanted : way.wanted ≡ step
+  pub own : IsLetOn (rule_at t.table step) (needs_of t.needs step) start way.scope
+  pub places : way.places.items ≡ []
 
 -- a way is longer than another one by a rule that enters the chain in which that begins, for the packets that this rule lets on
 pub record IsLonger (t : Whole) (way longer : Way) : Type 0 where

@@ -248,7 +248,3 @@ IsFinishedUnder t hook scope budget leaves =
 -- the same of a box, where no rule needs anything
 abbrev pub IsUnfinished : Table → Hook → List SpanSet → ℕ → Type 0
 IsUnfinished t hook box budget = IsUnfinishedUnder (all_of t) hook (unasked box) budget
-
--- the same of a walk that is finished
-abbrev pub IsFinished : Table → Hook → List SpanSet → ℕ → List Leaf → Type 0
-IsFinished t hook box budget leaves = IsFinishedUnder (all_of t) hook (unasked box) budget leaves

@@ -15,7 +15,7 @@ use Rattle.questions.specs.steps.Answered.{IsMeeting, MeetsNever}
 use Rattle.questions.specs.Foreign.{Assignment}
 use Rattle.questions.specs.Leaves.{entry_of}
 use Rattle.questions.specs.Scopes.{answered, whole_of}
-use Rattle.questions.specs.asked.Always.{SaysAt}
+use Rattle.questions.specs.asked.Always.{SaysIn}
 use Rattle.questions.specs.asked.Unclear.{IsUntold}
 use Rattle.questions.specs.declared.walking.course.Course.{Course}
 use Rattle.questions.specs.declared.asked.rule.Life.TheVariants.{Live}
@@ -60,6 +60,6 @@ pub record IsElsewhere (t : Table) (hook : Hook) (way : Way) : Type 0 where
 
 -- a packet comes to the rule; or others take the way over; or it can't be told, and the others stay
 abbrev pub IsTried : Subject → Course → Way → List Way → List Way → Tried → Type 0
-IsTried subject course way old new (Comes words answers) = SaysAt subject way.wanted course.hook (Live words answers)
+IsTried subject course way old new (Comes words answers) = SaysIn subject way.wanted course.hook way.scope (Live words answers)
 IsTried subject course way old new Parted = TakesOn subject course.hook way old new × AddsWays (TakesPlace (whole_of subject) way) old new
 IsTried subject course way old new Unknown = (new ≡ old) × IsUntold (whole_of subject) course.hook course.budget way

@@ -97,7 +97,6 @@ pub(crate) fn other_alone(
             answers.stand();
             Ok(Some(Shown { words, answers }))
         }
-        Likeness::Same => Ok(None),
-        Likeness::Unclear => Ok(None),
+        Likeness::Same | Likeness::Unclear => Ok(None),
     }
 }

@@ -1,14 +1,12 @@
 //! The rules by which two tables differ.
 ghost use Rattle.std.specs.Prelude.{◌≡◌, ◌+◌, ◌<◌, All, IfOk, OnOk, length};
 ghost use Rattle.questions.specs.Foreign.{Assignment};
-ghost use Rattle.questions.specs.Scopes.{all_of, answered, whole_of};
+ghost use Rattle.questions.specs.Scopes.{answered, whole_of};
 ghost use Rattle.questions.specs.asked.Changes.{AreChanges, AreChangesUnder, AreThese};
 ghost use Rattle.questions.specs.steps.Candidates.{AddsRules};
 ghost use Rattle.questions.specs.steps.Shared.{HasPlace, IsMarkedRule, is_marked, unshared};
 
 use crate::asked::pairs::{Pair, Side, marks_of, pairs_of};
-use crate::boxes::boxed_table::BoxedTable;
-use crate::foreign::need::Needs;
 use crate::foreign::subject::Subject;
 use std::alloc::{AllocError, Global};
 use table::{Step, Table};
@@ -69,30 +67,9 @@ fn unshared_of(
     Ok(found)
 }
 
-/// The rules by which two tables differ, in the order of a listing. Chains of one name are aligned: where the next rules differ, the nearest
-/// equal one, up to 1,023 rules further on in either chain, says which of them is a change. So a rule may count as one without need.
-///
-/// # Errors
-///
-/// `AllocError` where memory was refused.
-pub fn changes_of(alloc: Global, old: &BoxedTable, new: &BoxedTable) -> Result<Changes, AllocError>
-    ensures changes { IfOk result (AreChanges old.now.table.table new.now.table.table) }
-    ensures unpaired { IfOk result (AreChangesUnder (all_of old.now.table.table) (all_of new.now.table.table)) }
-{
-    let needs = Needs::none(alloc);
-    let old = Subject {
-        boxed: old,
-        needs: &needs,
-    };
-    let new = Subject {
-        boxed: new,
-        needs: &needs,
-    };
-    changes_under(alloc, &old, &new)
-}
-
-/// The same of tables whose rules need something: rules are equal if they need the same, too. So without the changes each chain has the same rules in
-/// what is left of both tables, whatever holds.
+/// The rules by which two tables differ, in the order of a listing; rules are equal if they need the same, too. So without the changes each chain has
+/// the same rules in what is left of both tables, whatever holds. Chains of one name are aligned: where the next rules differ, the nearest equal one, up
+/// to 1,023 rules further on in either chain, says which of them is a change. So a rule may count as one without need.
 ///
 /// # Errors
 ///

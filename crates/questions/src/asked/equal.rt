@@ -47,10 +47,7 @@ fn have_equal_chains(old: &Table, new: &Table, place: usize) -> bool
     requires new { place < length new.now.table.chains }
     ensures { IsTrue result ↔ (chain_at old.now.table place ≡ chain_at new.now.table place) }
 {
-    if old.chain_name(place) != new.chain_name(place) {
-        return false;
-    }
-    have_equal_rules(old, new, place)
+    old.chain_name(place) == new.chain_name(place) && have_equal_rules(old, new, place)
 }
 
 // Whether the tables are equal. It takes no memory, and time linear in their rules.
@@ -76,8 +73,5 @@ pub(crate) fn are_equal(old: &Table, new: &Table) -> bool
 pub(crate) fn are_equal_with_needs(old: &Subject<'_>, new: &Subject<'_>) -> bool
     ensures { IsTrue result ↔ AreEqual old.now new.now }
 {
-    if !are_equal(&old.boxed.table, &new.boxed.table) {
-        return false;
-    }
-    old.needs.equals(new.needs)
+    are_equal(&old.boxed.table, &new.boxed.table) && old.needs.equals(new.needs)
 }

@@ -20,13 +20,11 @@ use std::alloc::AllocError;
 /// What is known of two tables.
 #[derive(Drop)]
 pub enum Likeness {
-    /// Both give each packet that can be at its hook the same verdict, whichever rule or policy gives it, and whatever holds that rules need.
+    /// Both give each packet that can be at the hook the same verdict, whichever rule or policy gives it, and whatever holds that rules need.
     Same,
     /// These words write a packet, and where the answers are right the tables give it two verdicts.
     Differ(Words, Answers),
-    /// Neither is known. Each hook at which the tables aren't known to be the same is one where the steps don't
-    /// suffice, a trail is full, or the tables give some packet two verdicts, and none that a line writes. There is
-    /// such a hook.
+    /// Neither is known: the steps don't suffice, a trail is full, or the tables give some packet two verdicts, and none that a line writes.
     Unclear,
 }
 

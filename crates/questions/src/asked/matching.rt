@@ -3,11 +3,9 @@ ghost use Rattle.std.specs.Prelude.{[], IfOk, MatchOption};
 ghost use Rattle.questions.specs.Ends.{IsRule};
 ghost use Rattle.questions.specs.Scopes.{table_of};
 ghost use Rattle.questions.specs.steps.Answered.{MeetsNever};
-ghost use Rattle.questions.specs.steps.Takers.{IsScopeAt, needs_of, IsBoxAt};
+ghost use Rattle.questions.specs.steps.Takers.{IsScopeAt, needs_of};
 
-use crate::asked::reach::Given;
 use crate::boxes::area::Area;
-use crate::boxes::boxed_table::BoxedTable;
 use crate::foreign::answers::Answers;
 use crate::foreign::need::meeting;
 use crate::foreign::subject::Subject;
@@ -16,22 +14,7 @@ use fields::Hook;
 use std::alloc::{AllocError, Global};
 use table::Step;
 
-// The packets at a hook that the box of a rule has.
-pub(crate) fn packets_of(
-    alloc: Global,
-    subject: &BoxedTable,
-    hook: Hook,
-    step: Step,
-) -> Result<Given, AllocError>
-    requires { IsRule subject.now.table.table step }
-    ensures { IfOk result (IsBoxAt subject.now.table.table step hook) }
-{
-    let boxed = subject.at(step.chain, step.number);
-    let area = Area::at_hook(alloc, hook)?.within(alloc, boxed.spans())?;
-    Ok(Given { hook, area })
-}
-
-// The same, under answers that meet what the rule needs; none where no assignment meets that.
+// The packets at a hook that the box of a rule has, under answers that meet what the rule needs; none where no assignment meets that.
 pub(crate) fn scope_at(
     alloc: Global,
     subject: &Subject<'_>,
@@ -46,6 +29,7 @@ pub(crate) fn scope_at(
     let Some(answers) = meeting(needs, Answers::none(alloc))? else {
         return Ok(None);
     };
-    let Given { hook: _, area } = packets_of(alloc, subject.boxed, hook, step)?;
+    let boxed = subject.boxed.at(step.chain, step.number);
+    let area = Area::at_hook(alloc, hook)?.within(alloc, boxed.spans())?;
     Ok(Some(Scope { area, answers }))
 }

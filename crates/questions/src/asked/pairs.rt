@@ -7,7 +7,6 @@ ghost use Rattle.questions.specs.Scopes.{answered, table_of, whole_of};
 ghost use Rattle.questions.specs.asked.Changes.{IsAligned, IsPairOf};
 ghost use Rattle.questions.specs.steps.Shared.{AreSameAt, AreThere, HaveNext, IsAhead, IsBeside, IsNext, IsPaired, HasPlace, marks_on, pair_named};
 
-use crate::foreign::need::are_same;
 use crate::foreign::subject::Subject;
 use std::alloc::{AllocError, Global};
 use table::Table;
@@ -79,13 +78,8 @@ fn are_equal_at(old: &Subject<'_>, new: &Subject<'_>, chains: Places, passed: Pl
     let other = second.rule_count(chains.new);
     prove!(passed.new < other);
     let rule = first.rule(chains.old, passed.old + 1);
-    if !rule.equals(second.rule(chains.new, passed.new + 1)) {
-        return false;
-    }
-    are_same(
-        old.needs.at(chains.old, passed.old),
-        new.needs.at(chains.new, passed.new),
-    )
+    rule.equals(second.rule(chains.new, passed.new + 1))
+        && old.needs.at(chains.old, passed.old) == new.needs.at(chains.new, passed.new)
 }
 
 // Whether so many rules further on in one of the chains a rule is equal to the next one of the other chain, and needs the same.

@@ -38,7 +38,7 @@ fn met(alloc: Global, given: &Given) -> Result<Given, AllocError>
 /// number of each such packet is there. There is one entry a verdict and decider, and each rule is one of the
 /// table's.
 ///
-/// The packets walk the table as a box, with `budget` steps (`leaves`), and leaves are cut by transport header.
+/// The packets walk the table as a box, with `budget` steps (`leaves_under`), and leaves are cut by transport header.
 ///
 /// There is no answer only where the steps don't suffice or a trail is full.
 ///

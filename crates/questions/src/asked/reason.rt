@@ -4,15 +4,13 @@ ghost use Rattle.rules.specs.Boxed.{set_on};
 ghost use Rattle.table.specs.chains.Table.{chain_at};
 ghost use Rattle.questions.specs.Ends.{IsRule, rule_at};
 ghost use Rattle.questions.specs.Scopes.{table_of};
-ghost use Rattle.questions.specs.asked.Reason.{Explains, IsPossible, IsReached, ExplainsUnder, IsReasonUnder, IsTakenUnder};
-ghost use Rattle.questions.specs.asked.Unknown.{IsUndecided, IsUndecidedUnder};
+ghost use Rattle.questions.specs.asked.Reason.{IsPossible, IsReached, ExplainsUnder, IsReasonUnder, IsTakenUnder};
+ghost use Rattle.questions.specs.asked.Unknown.{IsUndecidedUnder};
 ghost use Rattle.questions.specs.boxes.Boxes.{HasNumbers};
 
 use crate::asked::leading::{leading_to, none_led};
 use crate::asked::takers::{Takers, takers_of};
 use crate::asked::ways::ways_into;
-use crate::boxes::boxed_table::BoxedTable;
-use crate::foreign::need::Needs;
 use crate::foreign::subject::Subject;
 use fields::Field;
 use rules::Boxed;
@@ -70,46 +68,17 @@ fn reason_by(
     }
 }
 
-/// Why rule `number` of the chain at a place, both of which have to be there, is dead: the first reason in the order of `Reason`, where rules exclude
-/// packets of the rule if their boxes share none with its box. Rules count from 1. An answer also says that the rule is dead.
+/// Why rule `number` of the chain at a place, both of which have to be there, is dead, whatever holds: the first reason in the order of `Reason`, where
+/// rules exclude packets of the rule if their boxes share none with its box. Rules count from 1. An answer also says that the rule is dead. It speaks of
+/// the packets that the rule matches where all holds that it needs; if this contradicts itself, there are none. Each rule and policy that is named
+/// decides one where some conditions hold.
 ///
 /// The packets that the rule's box has walk from each hook that leads to its chain as a box, those of each rule that jumps or
-/// goes there by themselves, with `budget` steps each time (`leaves`), and leaves are cut by transport header.
+/// goes there by themselves, with `budget` steps each time (`leaves_under`), under answers that are right just where all holds that the rule needs. A step
+/// is also one box that parts by a condition. Leaves are cut by transport header.
 ///
 /// There is no answer only where, at a hook from whose chain jumps and gotos lead to the rule's chain, the rule tests
 /// both ports at once (`Rule::asks_both`), the steps don't suffice, a trail is full, or a walk comes to the rule.
-///
-/// # Errors
-///
-/// `AllocError` where memory was refused.
-pub fn why_dead(
-    alloc: Global,
-    subject: &BoxedTable,
-    place: usize,
-    number: usize,
-    budget: usize,
-) -> Result<Option<Reason>, AllocError>
-    requires place { place < length subject.now.table.table.chains }
-    requires first { 0 < number }
-    requires last { number ≤ length (chain_at subject.now.table.table place).rules }
-    ensures { IfOk result (λ found. MatchOption found
-        (IsUndecided subject.now.table.table (record { chain = place; number = number }) budget)
-        (Explains subject.now.table.table (record { chain = place; number = number }))) }
-{
-    let needs = Needs::none(alloc);
-    let subject = Subject {
-        boxed: subject,
-        needs: &needs,
-    };
-    why_dead_under(alloc, &subject, place, number, budget)
-}
-
-/// The same of a table whose rules need something: why the rule is dead, whatever holds. An answer speaks of the packets that the rule matches
-/// where all holds that it needs; if this contradicts itself, there are none. Each rule and policy that is named decides one where some
-/// conditions hold.
-///
-/// The packets of the rule's box walk under answers that are right just where all holds that the rule needs. A step is also one box that parts
-/// by a condition.
 ///
 /// # Errors
 ///

@@ -2,23 +2,22 @@
 ghost use Rattle.std.specs.Prelude.{◌≡◌, ◌<◌, ◌≤◌, ◌↔◌, false, All, Any, Contains, length, IfOk, IsTrue};
 ghost use Rattle.table.specs.chains.Table.{chain_at};
 ghost use Rattle.questions.specs.Ends.{IsRule};
-ghost use Rattle.questions.specs.Scopes.{table_of};
-ghost use Rattle.questions.specs.asked.Always.{AreAlwaysShort, IsUnclear as IsUnclearUnder, MayLive, Says as SaysUnder, SaysAt};
+ghost use Rattle.questions.specs.Scopes.{table_of, whole_of};
+ghost use Rattle.questions.specs.asked.Always.{AreAllShort, AreAlwaysShort, IsUnclear, MayLive, Says, SaysAt, SaysIn};
 ghost use Rattle.questions.specs.asked.Necessary.{IsByFew};
-ghost use Rattle.questions.specs.asked.Rule.{Says};
-ghost use Rattle.questions.specs.asked.Reason.{AreNeverTooLong, AreNeverTooLongUnder};
-ghost use Rattle.questions.specs.asked.Unclear.{IsUnclear, IsUnclearAt};
+ghost use Rattle.questions.specs.asked.Reason.{AreNeverTooLongUnder};
+ghost use Rattle.questions.specs.asked.Unclear.{IsUnclearAt, MayComeFrom};
 ghost use Rattle.questions.specs.declared.asked.rule.Life.TheVariants.{Dead};
 
 use crate::asked::leading::{is_led, leading_to};
 use crate::asked::shortest::enough_of;
-use crate::boxes::boxed_table::BoxedTable;
+use crate::boxes::area::Area;
 use crate::foreign::answers::Answers;
-use crate::foreign::need::Needs;
 use crate::foreign::subject::Subject;
 use crate::seeking::seek::seek;
 use crate::walking::course::Course;
 use crate::walking::lengths::are_short;
+use crate::walking::scope::Scope;
 use crate::walking::task::Leaf;
 use fields::{Hook, Words};
 use std::alloc::{AllocError, Global};
@@ -56,65 +55,51 @@ pub(crate) fn none_on(found: &[Leaf], step: Step) -> bool
     true
 }
 
-// What is said of a rule, for the packets at one hook. It is dead only where no walk is too long.
+// What is said of a rule, for those packets at one hook that are in a scope. It is dead only where no walk is too long.
+pub(crate) fn life_in(
+    subject: &Subject<'_>,
+    course: Course,
+    start: &Scope,
+    step: Step,
+) -> Result<Life, AllocError>
+    requires { IsRule (table_of subject.now) step }
+    ensures says { IfOk result (SaysIn subject.now step course.hook start.now) }
+    ensures unclear { IfOk result (IsUnclearAt (MayComeFrom (whole_of subject.now) start.now step course.hook course.budget)) }
+    ensures short { IfOk result (λ life. life ≡ Dead → AreAllShort subject.now course.hook) }
+{
+    match seek(subject, course, start, step)? {
+        Life::Dead if !are_short(subject, course.hook) => Ok(Life::Unclear),
+        life => Ok(life),
+    }
+}
+
+// The same for all packets at the hook.
 pub(crate) fn life_at(subject: &Subject<'_>, course: Course, step: Step) -> Result<Life, AllocError>
     requires { IsRule (table_of subject.now) step }
     ensures says { IfOk result (SaysAt subject.now step course.hook) }
     ensures unclear { IfOk result (IsUnclearAt (MayLive subject.now step course.budget course.hook)) }
     ensures short { IfOk result (λ life. life ≡ Dead → AreAlwaysShort subject.now step course.hook) }
 {
-    match seek(subject, course, step)? {
-        Life::Live(words, answers) => Ok(Life::Live(words, answers)),
-        Life::Unclear => Ok(Life::Unclear),
-        Life::Dead => {
-            if are_short(subject, course.hook) {
-                return Ok(Life::Dead);
-            }
-            Ok(Life::Unclear)
-        }
-    }
+    let start = Scope {
+        area: Area::at_hook(course.alloc, course.hook)?,
+        answers: Answers::none(course.alloc),
+    };
+    life_in(subject, course, &start, step)
 }
 
-/// Whether rule `number` of the chain at a place, both of which have to be there, can match at all. Rules count from 1.
+/// Whether rule `number` of the chain at a place, both of which have to be there, can match at all: whether it is dead whatever holds; or a packet line
+/// and answers, such that the rule is on the packet's walk where they are right, whatever else holds. Rules count from 1.
 ///
 /// At each hook from whose chain jumps and gotos lead to the rule's chain a packet is sought that comes to the rule: at most `budget` packets of its box
 /// walk one after another, each on a way by rules that enter one chain after another. One that is led away parts the packets of its way, and where
 /// none is left the rule is dead. Where it isn't seen what leads a packet away, its walks tell, with `budget` steps, and it is left out. It takes the
 /// memory of the ways that are left: for each a box, answers, and the rules by which it leads.
 ///
-/// Where the rule is dead, no walk of a packet that it would match is too long, of those at hooks from which jumps and gotos lead to its chain. So no
-/// packet would come to the rule either if a walk could have more than 65,536 rules.
-///
-/// # Errors
-///
-/// `AllocError` where memory was refused.
-pub fn dead(
-    alloc: Global,
-    subject: &BoxedTable,
-    place: usize,
-    number: usize,
-    budget: usize,
-) -> Result<Life, AllocError>
-    requires place { place < length subject.now.table.table.chains }
-    requires first { 0 < number }
-    requires last { number ≤ length (chain_at subject.now.table.table place).rules }
-    ensures says { IfOk result (Says subject.now.table.table (record { chain = (chain_at subject.now.table.table place).name; number = number })) }
-    ensures short { IfOk result (λ life. life ≡ Dead → AreNeverTooLong subject.now.table.table (record { chain = place; number = number })) }
-    ensures unclear { IfOk result (IsUnclear subject.now.table.table (record { chain = place; number = number }) budget) }
-{
-    let needs = Needs::none(alloc);
-    let subject = Subject {
-        boxed: subject,
-        needs: &needs,
-    };
-    life_under(alloc, &subject, place, number, budget)
-}
-
-/// The same of a table whose rules need something: whether the rule is dead whatever holds; or a packet line and answers, such that the rule is
-/// on the packet's walk where they are right, whatever else holds.
-///
 /// A step of a packet's walks is also one box that parts by a condition (`leaves_under`). A packet is offered if it is seen to come to the rule
 /// whatever else holds, or if its walks, for all assignments that give the answers, are known to have the rule and to end with `budget` steps.
+///
+/// Where the rule is dead, no walk of a packet that it would match is too long, of those at hooks from which jumps and gotos lead to its chain. So no
+/// packet would come to the rule either if a walk could have more than 65,536 rules.
 ///
 /// # Errors
 ///
@@ -129,9 +114,9 @@ pub fn life_under(
     requires place { place < length (table_of subject.now).chains }
     requires first { 0 < number }
     requires last { number ≤ length (chain_at (table_of subject.now) place).rules }
-    ensures says { IfOk result (SaysUnder subject.now (record { chain = (chain_at (table_of subject.now) place).name; number = number })) }
+    ensures says { IfOk result (Says subject.now (record { chain = (chain_at (table_of subject.now) place).name; number = number })) }
     ensures short { IfOk result (λ life. life ≡ Dead → AreNeverTooLongUnder subject.now (record { chain = place; number = number })) }
-    ensures unclear { IfOk result (IsUnclearUnder subject.now (record { chain = place; number = number }) budget) }
+    ensures unclear { IfOk result (IsUnclear subject.now (record { chain = place; number = number }) budget) }
 {
     let step = Step {
         chain: place,
@@ -161,7 +146,7 @@ pub fn life_under(
     Ok(Life::Unclear)
 }
 
-/// The same with few answers. Of more than eight the first half is given, again and again, as long as it is seen to suffice. Of up to eight each
+/// The same as `life_under`, with few answers. Of more than eight the first half is given, again and again, as long as it is seen to suffice. Of up to eight each
 /// is necessary: without it the rule may be off the packet's walk, or the walks aren't known to end with `budget` steps. That costs up to eight
 /// more searches for a walk of the packet that misses the rule.
 ///
@@ -178,9 +163,9 @@ pub fn dead_under(
     requires place { place < length (table_of subject.now).chains }
     requires first { 0 < number }
     requires last { number ≤ length (chain_at (table_of subject.now) place).rules }
-    ensures says { IfOk result (SaysUnder subject.now (record { chain = (chain_at (table_of subject.now) place).name; number = number })) }
+    ensures says { IfOk result (Says subject.now (record { chain = (chain_at (table_of subject.now) place).name; number = number })) }
     ensures short { IfOk result (λ life. life ≡ Dead → AreNeverTooLongUnder subject.now (record { chain = place; number = number })) }
-    ensures unclear { IfOk result (IsUnclearUnder subject.now (record { chain = place; number = number }) budget) }
+    ensures unclear { IfOk result (IsUnclear subject.now (record { chain = place; number = number }) budget) }
     ensures few { IfOk result (IsByFew subject.now (record { chain = place; number = number }) budget) }
 {
     match life_under(alloc, subject, place, number, budget)? {

@@ -118,13 +118,6 @@ fn are_free(chains: &[Vec<Vec<Need>>]) -> bool
     true
 }
 
-// Whether rules that need these need the same.
-pub(crate) fn are_same(needs: &[Need], others: &[Need]) -> bool
-    ensures { IsTrue result ↔ (needs.now ≡ others.now) }
-{
-    needs == others
-}
-
 // What is known of all that a rule needs.
 #[derive(Clone, Copy)]
 pub(crate) enum Standing {

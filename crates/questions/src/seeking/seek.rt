@@ -7,13 +7,12 @@ ghost use Rattle.questions.specs.Foreign.{Agrees, Assignment};
 ghost use Rattle.questions.specs.Leaves.{entry_of};
 ghost use Rattle.questions.specs.Scopes.{answered, table_of, whole_of};
 ghost use Rattle.questions.specs.Written.{IsSampleOf};
-ghost use Rattle.questions.specs.asked.Always.{SaysAt};
+ghost use Rattle.questions.specs.asked.Always.{SaysIn};
 ghost use Rattle.questions.specs.asked.Unclear.{IsSoughtInVain, IsUnclearAt};
 ghost use Rattle.questions.specs.boxes.Boxes.{IsAtHook};
 ghost use Rattle.questions.specs.steps.Seeking.{AreScopesOf, IsLess};
 ghost use Rattle.questions.specs.steps.Tried.{IsElsewhere, IsTried};
 
-use crate::asked::matching::scope_at;
 use crate::asked::necessary::is_always_on;
 use crate::asked::rule::{Life, is_on};
 use crate::foreign::answers::Answers;
@@ -22,10 +21,11 @@ use crate::sampling::sample::{Sample, sample_of};
 use crate::seeking::before::Approach;
 use crate::seeking::less::are_less;
 use crate::seeking::parting::parts_without;
+use crate::seeking::seen::Seen;
 use crate::seeking::steering::{Ending, steer};
 use crate::seeking::straying::others;
 use crate::seeking::walked::walked;
-use crate::seeking::way::{Way, add_longer, add_parts};
+use crate::seeking::way::{Way, add_longer, add_parts, met_with};
 use crate::walking::course::Course;
 use crate::walking::engine::hook_index;
 use crate::walking::scope::Scope;
@@ -158,14 +158,22 @@ fn try_way(
     }
 }
 
-// What packets that are sought at a hook tell of a rule: one comes to it, or none does.
-pub(crate) fn seek(subject: &Subject<'_>, course: Course, step: Step) -> Result<Life, AllocError>
+// What packets of a scope that are sought at a hook tell of a rule: one comes to it, or none does.
+pub(crate) fn seek(
+    subject: &Subject<'_>,
+    course: Course,
+    start: &Scope,
+    step: Step,
+) -> Result<Life, AllocError>
     requires { IsRule (table_of subject.now) step }
-    ensures says { IfOk result (SaysAt subject.now step course.hook) }
-    ensures vain { IfOk result (IsUnclearAt (IsSoughtInVain (whole_of subject.now) step course.hook course.budget)) }
+    ensures says { IfOk result (SaysIn subject.now step course.hook start.now) }
+    ensures vain { IfOk result (IsUnclearAt (IsSoughtInVain (whole_of subject.now) start.now step course.hook course.budget)) }
 {
     subject.boxed.table.stands();
-    let Some(scope) = scope_at(course.alloc, subject, course.hook, step)? else {
+    let Some(seen) = Seen::at(*subject, step) else {
+        return Ok(Life::Dead);
+    };
+    let Some(scope) = met_with(course.alloc, &seen, start)? else {
         return Ok(Life::Dead);
     };
     let mut ways = Vec::new(course.alloc);

@@ -7,17 +7,12 @@ ghost use Rattle.table.specs.declared.verdict.Verdict.TheVariants.{TooLong};
 ghost use Rattle.table.specs.steps.Kept.{hook_index};
 ghost use Rattle.table.specs.walk.Walk.{end_verdict};
 ghost use Rattle.questions.specs.Foreign.{AreAsked, Assignment};
-ghost use Rattle.questions.specs.Leaves.{AreExactOn, AreLeavesOf};
 ghost use Rattle.questions.specs.Scopes.{AreExactUnder, AreLeavesUnder, IsSurely, answered, known_by, table_of, whole_of};
 ghost use Rattle.questions.specs.declared.foreign.need.Need.{Need};
 ghost use Rattle.questions.specs.steps.Waiting.{AllAsked, KeepsAsked, AreThere, Begins, Moves, stage_of};
-ghost use Rattle.questions.specs.steps.Taken.{AddsTasks, GetsOn, AddsParts, IsFinished, IsFinishedUnder, IsFirst, IsUnfinished, IsUnfinishedUnder};
+ghost use Rattle.questions.specs.steps.Taken.{AddsTasks, GetsOn, AddsParts, IsFinishedUnder, IsFirst, IsUnfinishedUnder};
 
-use crate::boxes::area::Area;
-use crate::boxes::boxed_table::BoxedTable;
 use crate::boxes::candidates::Candidates;
-use crate::foreign::answers::Answers;
-use crate::foreign::need::Needs;
 use crate::foreign::subject::Subject;
 use crate::walking::ahead::advanced;
 use crate::walking::front::Front;
@@ -111,49 +106,17 @@ pub(crate) fn begin(
     Ok(front)
 }
 
-/// The walk of a box, from the first rule of a hook's chain: leaves, such that every packet of the box that can be at
-/// the hook is in one of them, and no other packet that can be at the hook is; it has the walk that the leaf shows. There are none only where
-/// the whole budget was used up with a box left, or a trail was full, with 65,536 rules, before.
+/// The walk of a box under answers, from the first rule of a hook's chain: leaves, such that for each assignment that gives the answers every packet of
+/// the box that can be at the hook is in a leaf whose answers the assignment gives, too, and such a leaf has no packet at the hook from outside the
+/// box. In the table that the assignment leaves, the packet's walk is the one that the leaf shows; and all holds that the rule needs which decides
+/// it. A leaf's answers are those of the box, or about conditions that some rule needs. There are no leaves only where the whole budget was used up
+/// with a box left, or a trail was full, with 65,536 rules, before.
 ///
-/// A step of the budget is one rule tested on one box, or one chain at its end; rules that share no packet with the box are
-/// passed without a step. It makes at most two parts more than there are fields, each with some of the box's numbers, of which no
+/// A step of the budget is one rule tested on one box, one box that parts by a condition, or one chain at its end; rules that share no packet with the
+/// box are passed without a step. A test makes at most two parts more than there are fields, each with some of the box's numbers, of which no
 /// two share any. Rules that share no packet with the first box are set aside after many looks, with one at each rule and eight bytes
 /// for it. A step takes the memory of a copy of the box, of the rests that wait and of the trail for each field on which the rule
 /// leaves numbers out.
-///
-/// # Errors
-///
-/// `AllocError` where memory was refused.
-pub fn leaves(
-    alloc: Global,
-    subject: &BoxedTable,
-    hook: Hook,
-    start: Area,
-    budget: usize,
-) -> Result<Option<Vec<Leaf>>, AllocError>
-    ensures leaves { IfOk result (λ found. IfSome found (λ leaves. AreLeavesOf subject.now.table.table hook start leaves.items)) }
-    ensures exact { IfOk result (λ found. IfSome found (λ leaves. AreExactOn subject.now.table.table hook start leaves.items)) }
-    ensures steps { IfOk result (λ found. MatchOption found
-        (IsUnfinished subject.now.table.table hook start budget) (λ leaves. IsFinished subject.now.table.table hook start budget leaves.items)) }
-{
-    let needs = Needs::none(alloc);
-    let subject = Subject {
-        boxed: subject,
-        needs: &needs,
-    };
-    let start = Scope {
-        area: start,
-        answers: Answers::none(alloc),
-    };
-    leaves_under(alloc, &subject, hook, start, budget)
-}
-
-/// The same of a box under answers, for each assignment that gives them: every packet of the box that can be at the hook is in a leaf whose
-/// answers the assignment gives, too, and such a leaf has no packet at the hook from outside the box. In the table that the assignment leaves,
-/// the packet's walk is the one that the leaf shows; and all holds that the rule needs which decides it. A leaf's answers are those of the box, or
-/// about conditions that some rule needs.
-///
-/// A step of the budget is also one box that parts by a condition.
 ///
 /// # Errors
 ///

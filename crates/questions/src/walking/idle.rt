@@ -1,10 +1,9 @@
 //! Chains from which a packet comes back at once, and what rules need where no jump into such a chain asks anything.
-ghost use Rattle.std.specs.Prelude.{◌≡◌, ◌<◌, ◌↔◌, ℕ, List, length, map, Contains, IfOk, IsTrue};
+ghost use Rattle.std.specs.Prelude.{◌≡◌, ◌<◌, ◌↔◌, ℕ, List, length, map, IfOk, IsTrue};
 ghost use Rattle.table.specs.chains.Table.{chain_at};
-ghost use Rattle.questions.specs.Ends.{IsRule, rule_at};
 ghost use Rattle.questions.specs.Foreign.{IsNeeded, needs_at};
 ghost use Rattle.questions.specs.Scopes.{table_of};
-ghost use Rattle.questions.specs.asked.Idle.{AreIdle, AreSpared, ComesBack, IsIdle, IsIdleJump, IsSpared};
+ghost use Rattle.questions.specs.asked.Idle.{AreIdle, AreSpared, ComesBack, IsIdleJump, IsSpared};
 ghost use Rattle.questions.specs.boxes.Boxes.{IsAtHook};
 ghost use Rattle.questions.specs.steps.Ending.{AreIdleMarks, AreSparedIn, items_in};
 ghost use Rattle.questions.specs.steps.Waiting.{IsThere, rule_ahead};
@@ -31,36 +30,21 @@ fn comes_back(target: Option<Target>) -> bool
     }
 }
 
-// Whether a rule doesn't match a packet, or leaves it in the chain or sends it back from there.
-fn is_idle_at(subject: &Subject<'_>, packet: &Packet, by: Step) -> bool
-    requires can { IsAtHook packet.now }
-    requires rule { IsRule (table_of subject.now) by }
-    ensures { IsTrue result ↔ IsIdle packet.now.values (rule_at (table_of subject.now) by) }
-{
-    match Seen::at(*subject, by) {
-        Some(seen) => {
-            if !seen.matches(packet) {
-                return true;
-            }
-            comes_back(seen.rule.target())
-        }
-        None => true,
-    }
-}
-
 // Whether a packet comes back at once from the chain at a place, whatever holds.
 fn is_idle(subject: &Subject<'_>, packet: &Packet, place: usize) -> bool
     requires can { IsAtHook packet.now }
     requires place { place < length (table_of subject.now).chains }
     ensures { IsTrue result ↔ AreIdle packet.now.values (chain_at (table_of subject.now) place).rules }
 {
-    let count = subject.boxed.table.rule_count(place);
-    for passed in 0..count {
+    for passed in 0..subject.boxed.table.rule_count(place) {
         let by = Step {
             chain: place,
             number: passed + 1,
         };
-        if !is_idle_at(subject, packet, by) {
+        let Some(seen) = Seen::at(*subject, by) else {
+            return true;
+        };
+        if seen.matches(packet) && !comes_back(seen.rule.target()) {
             return false;
         }
     }
@@ -97,14 +81,6 @@ fn is_idle_jump(table: &Table, marks: &[bool], rule: &Rule) -> bool
     }
 }
 
-// The first of some needs.
-fn first_need(needs: &[Need]) -> Need
-    requires { 0 < length needs.now }
-    ensures { Contains needs.now result }
-{
-    needs[0]
-}
-
 // What a rule needs, where it asks nothing if it is such a jump.
 fn spared_at(
     alloc: Global,
@@ -124,11 +100,11 @@ fn spared_at(
     prove!(at.passed < count);
     let rule = table.rule(at.chain, at.passed + 1);
     let needs = subject.needs.at(at.chain, at.passed);
-    if needs.is_empty() {
+    let Some(first) = needs.first() else {
         return Ok(Vec::new(alloc));
-    }
+    };
     if is_idle_jump(table, marks, rule) {
-        return unmeetable(alloc, first_need(needs));
+        return unmeetable(alloc, *first);
     }
     let mut same = Vec::new(alloc);
     same.extend_from_slice(needs)?;

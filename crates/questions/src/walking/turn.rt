@@ -52,31 +52,11 @@ fn enter(table: &Table, front: &mut Front, task: Task, name: &Name) -> Result<()
     }
 }
 
-// The walks come back to a chain before they go on in another one.
-fn jump(
-    table: &Table,
-    front: &mut Front,
-    mut task: Task,
-    behind: Pending,
-    name: &Name,
-) -> Result<(), AllocError>
-    ensures moves { OnOk result ((t : Filter) (known : Known) (policy : Verdict) → AreNamedAlike t table.now.table → IsThere t.chains behind → AreThere t.chains task
-        → Moves t known policy task.scope
-        (Under (whole name.now ∷ rest_of t.chains behind ∷ rests_of t.chains task.rests.items) (entries_by known t.chains task.trail.items))
-        front.old front.new) }
-    ensures asked { OnOk result ((needs : List (List (List Needed))) → KeepsAsked needs task.scope.answers front.old front.new) }
-    ensures on { OnOk result (AddsTasks (IsEntered table.now.table.chains name.now (task.rests.items ++ behind ∷ []) task.trail.items) front.old front.new) }
-    ensures one { OnOk result (AddsOne task.scope front.old front.new) }
-{
-    task.rests.push(behind)?;
-    enter(table, front, task, name)
-}
-
 // The walks go where a target says, from behind its rule.
 fn turn(
     table: &Table,
     front: &mut Front,
-    task: Task,
+    mut task: Task,
     behind: Pending,
     target: Option<Target>,
 ) -> Result<(), AllocError>
@@ -97,7 +77,10 @@ fn turn(
         Some(Target::Drop) => front.add_leaf(task, Verdict::Drop, false),
         Some(Target::Reject(kind)) => front.add_leaf(task, Verdict::Reject(kind), false),
         Some(Target::Return) => front.add_task(task),
-        Some(Target::Jump(name)) => jump(table, front, task, behind, &name),
+        Some(Target::Jump(name)) => {
+            task.rests.push(behind)?;
+            enter(table, front, task, &name)
+        }
         Some(Target::Goto(name)) => enter(table, front, task, &name),
     }
 }

@@ -29,7 +29,7 @@ pub(crate) enum Answer {
     Cover {
         rules: Vec<RuleEntry>,
         counts: Counts,
-        /// The lines of the packets whose walks aren't known.
+        /// The lines of the packets of which it isn't known of a rule whether they match it.
         #[serde(skip_serializing_if = "Vec::is_empty")]
         unclear_lines: Vec<u64>,
         #[serde(skip_serializing_if = "Vec::is_empty")]

@@ -1,5 +1,4 @@
-use Rattle.std.proofs.Common.{◌+◌, ◌<◌, ◌≤◌, [], ◌∷◌, inl, length, sym, ◌∙◌, arith}
-use Rattle.std.proofs.lemmas.Bool.{true≢false}
+use Rattle.std.proofs.Common.{◌+◌, ◌<◌, ◌≤◌, [], ◌∷◌, inl, length, sym, ◌∙◌, arith, true≢false}
 use Rattle.std.proofs.lemmas.List.Elements.{Contains-append_left}
 use Rattle.table.specs.chains.Table.{chain_at}
 use Rattle.table.specs.declared.walk.trail.Step.{Step}

@@ -2,7 +2,7 @@ use Rattle.questions.specs.Scopes.{table_of, whole_of}
 use Rattle.questions.specs.declared.asked.changes.Changes.{Changes}
 use Rattle.questions.specs.declared.asked.pairs.Side.TheVariants as side
 use Rattle.questions.specs.steps.Shared.{unshared}
-use Rattle.questions.proofs.laws.SharedLaws.{unpaired_of, all_placed, pairs_under, share_left}
+use Rattle.questions.proofs.laws.SharedLaws.{unpaired_of, all_placed, share_left}
 use Rattle.questions.proofs.laws.CompareLaws.{changes_left}
 use Rattle.questions.proofs.asked.changes.changes_under.Goals as goal
 
@@ -21,7 +21,7 @@ returns-clause-unpaired c =
       went = unshared side.Went (table_of old).chains pairs;
       came = unshared side.Came (table_of old).chains pairs;
       changed = record {
-        shared = λ a. share_left old new a pairs (pairs_under old new a pairs c.in_ok-pairs.ensures.paired);
+        shared = λ a. share_left old new a pairs (λ k d lt. c.in_ok-pairs.ensures.paired k d lt a);
         unpaired = unpaired_of (whole_of old) (whole_of new) c.stands.ensures.sound c.stands-2.ensures.sound pairs c.in_ok-pairs.ensures.aligned c.in_ok-pairs.ensures.all;
       };
       first = rw c.as_slice.ensures.value at c.in_ok-went.ensures;

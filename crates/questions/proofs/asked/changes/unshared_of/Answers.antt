@@ -20,10 +20,7 @@ loop-place-preserved c =
     let named : List ℕ → List Bool = λ name. marks_on c.args.side (pair_named chains pairs name) in
     let are : c.marks_of-marks.result.now ≡ named (name_at t.chains place) = c.marks_of-marks.ensures ∙ ap named c.chain_name.ensures in
     let adds : AddsRules This place old new = unshared_in t c.args.side chains pairs c.marks_of-marks.result.now place old new are c.in_ok-add_marked.ensures in
-    record {
-      before = before_next This place old new adds c.loop-place.invariant.before;
-      only = all_next This place old new adds c.loop-place.invariant.only;
-    }
+    record { before = before_next This place old new adds c.loop-place.invariant.before; only = all_next This place old new adds c.loop-place.invariant.only }
 
 pub returns : goal.returns
 returns c = record {

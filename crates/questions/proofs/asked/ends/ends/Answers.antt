@@ -1,5 +1,4 @@
-use Rattle.std.proofs.Common.{ap, inl, inr, refl, subst, sym, ◌∙◌}
-use Rattle.std.proofs.lemmas.Bool.{true≢false}
+use Rattle.std.proofs.Common.{ap, inl, inr, refl, subst, sym, ◌∙◌, true≢false}
 use Rattle.fields.specs.Packet.{PacketView as Packet}
 use Rattle.questions.specs.Scopes.{table_of}
 use Rattle.questions.specs.steps.Lengths.{IsBounded}

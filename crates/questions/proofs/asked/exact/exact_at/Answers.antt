@@ -1,6 +1,4 @@
-use Rattle.std.proofs.Common.{List}
-use Rattle.std.specs.Prelude.{All, Vec}
-use Rattle.std.specs.Global.{Global}
+use Rattle.std.proofs.Common.{List, All, Vec, Global}
 use Rattle.std.proofs.lemmas.Result.{IfOk-weaker}
 use Rattle.questions.specs.Scopes.{Whole, known_under, left_under, under}
 use Rattle.questions.specs.asked.Differing.{HasPackets}

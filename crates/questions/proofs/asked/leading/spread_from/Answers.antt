@@ -1,6 +1,5 @@
-use Rattle.std.proofs.Common.{◌≡◌, ◌∙◌, arith, false, length, true}
+use Rattle.std.proofs.Common.{◌≡◌, ◌∙◌, arith, false, length, true, get_or-set_same, length-set}
 use Rattle.std.specs.Option.{option_map}
-use Rattle.std.proofs.lemmas.List.{get_or-set_same, length-set}
 use Rattle.questions.specs.Ends.{rule_at}
 use Rattle.questions.specs.Leaves.{name_at}
 use Rattle.questions.proofs.laws.LeadLaws.{first_spread, none_marked, first_leads}

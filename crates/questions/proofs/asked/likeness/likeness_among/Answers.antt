@@ -1,5 +1,4 @@
-use Rattle.std.proofs.Common.{◌<◌, inr, length, sym, ◌∙◌, arith, subst}
-use Rattle.std.proofs.lemmas.Bool.{true≢false}
+use Rattle.std.proofs.Common.{◌<◌, inr, length, sym, ◌∙◌, arith, subst, true≢false}
 use Rattle.questions.specs.Scopes.{whole_of}
 use Rattle.questions.specs.asked.Alike.{IsGivenBy}
 use Rattle.questions.specs.steps.Compared.{MayDifferIn}

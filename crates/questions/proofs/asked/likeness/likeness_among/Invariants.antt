@@ -1,5 +1,4 @@
-use Rattle.std.proofs.Common.{◌≡◌, ℕ, ◌<◌, true, false, get_or}
-use Rattle.std.specs.Prelude.{Any}
+use Rattle.std.proofs.Common.{◌≡◌, ℕ, ◌<◌, true, false, get_or, Any}
 use Rattle.questions.specs.Scopes.{whole_of}
 use Rattle.questions.specs.asked.Alike.{IsGivenBy}
 use Rattle.questions.specs.declared.walking.task.Leaf.{Leaf}

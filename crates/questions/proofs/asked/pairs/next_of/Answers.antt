@@ -1,5 +1,4 @@
-use Rattle.std.proofs.Common.{sym, ◌∙◌, inl, inr, arith}
-use Rattle.std.proofs.lemmas.Bool.{true≢false}
+use Rattle.std.proofs.Common.{sym, ◌∙◌, inl, inr, arith, true≢false}
 use Rattle.questions.specs.Scopes.{whole_of}
 use Rattle.questions.proofs.laws.SharedLaws.{none_next}
 use Rattle.questions.proofs.asked.pairs.next_of.Goals as goal

@@ -1,10 +1,9 @@
-use Rattle.std.proofs.Common.{◌≡◌, inl, inr, ℕ, true, false, List, [], sym, ◌∙◌, arith, subst}
-use Rattle.std.proofs.lemmas.Bool.{cases_lt, true≢false}
+use Rattle.std.proofs.Common.{◌≡◌, inl, inr, ℕ, false, [], sym, ◌∙◌, arith, true≢false}
+use Rattle.std.proofs.lemmas.Bool.{cases_lt}
 use Rattle.std.proofs.lemmas.List.Elements.{All-push}
-use Rattle.table.specs.chains.Table.{empty_chain, has_chain}
+use Rattle.table.specs.chains.Table.{empty_chain}
 use Rattle.table.proofs.laws.chains.PlaceLaws.{IsPlaced, placed_at, placed_nowhere}
 use Rattle.questions.specs.Foreign.{Assignment}
-use Rattle.questions.specs.Leaves.{name_at}
 use Rattle.questions.specs.Scopes.{answered, table_of, whole_of}
 use Rattle.questions.specs.asked.Changes.{IsPairOf}
 use Rattle.questions.specs.declared.asked.pairs.Pair.{Pair}
@@ -43,10 +42,8 @@ loop-place-preserved c =
           | inl before ↦ c.loop-place.invariant.all k before has
           | inr past ↦ (
               let same : place ≡ k = omega (arith, lt, past) in
-              let P : ℕ → Type 0 = λ j. has_chain (table_of other) (name_at (table_of s).chains j) ≡ true in
-              let N : List ℕ → Type 0 = λ n. has_chain (table_of other) n ≡ true in
               let nowhere = placed_nowhere (table_of other) c.chain_name.result.now (sym c.index_of.ensures ∙ w.in_default.is) in
-              absurd (true≢false (sym (subst N (sym c.chain_name.ensures) (subst P (sym same) has)) ∙ nowhere)))
+              absurd (true≢false (sym (rw (← c.chain_name.ensures) at (rw (← same) at has)) ∙ nowhere)))
         ];
       })
     ]

@@ -1,7 +1,7 @@
 use Rattle.questions.specs.steps.Exact.{AreExactWalks}
 use Rattle.questions.specs.steps.Groups.{AreGroups}
 use Rattle.questions.specs.declared.asked.reach.Given.{Given}
-use Rattle.questions.proofs.laws.ExactLaws.{cant_be_walked, exact_walks_plain}
+use Rattle.questions.proofs.laws.ExactLaws.{exact_walks_plain}
 use Rattle.questions.proofs.laws.ReachLaws.{reach_of}
 use Rattle.questions.proofs.asked.reach.reach.Goals as goal
 
@@ -18,4 +18,4 @@ pub returns-in-None : goal.returns-in-None
 returns-in-None c =
     let met : Given = c.in_ok-hook.field-0 in
     let t = c.args.subject.now.table.table in
-    (met, c.in_ok-hook.ensures, cant_be_walked t c.none-needs.result c.none-needs.ensures met.hook met.area c.args.budget (rw (c.in-None.is, c.none.ensures) at c.in_ok-exact_walks.ensures))
+    (met, c.in_ok-hook.ensures, (met.area, record { all = λ numbers point own other. own; first = λ numbers point h. h; second = λ numbers point h. h }, rw c.none-needs.ensures at (rw (c.in-None.is, c.none.ensures) at c.in_ok-exact_walks.ensures)))

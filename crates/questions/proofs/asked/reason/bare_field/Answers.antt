@@ -17,10 +17,9 @@ loop-field-preserved c = λ k d lt.
       | inl before ↦ c.loop-field.invariant k d before
       | inr past ↦ (
           let same : i ≡ k = omega (arith, lt, past) in
-          let P : ℕ → Type 0 = λ j. On (get_or all_fields j d) in
           let one = first_number c.on.result.now c.is_empty.result c.intervals.ensures.canonical (rw c.intervals.ensures.value at c.is_empty.ensures) c.if-is_empty.false in
           let here : On (get_or all_fields i field.Source) = number_of_set c.args.boxed.now (get_or all_fields i field.Source) c.on.result.now c.on.ensures.set c.on.ensures.top one in
-          subst P same (subst On (get_or_default all_fields i field.Source d (omega (arith, c.loop-field-test.true))) here))
+          rw same at (subst On (get_or_default all_fields i field.Source d (omega (arith, c.loop-field-test.true))) here))
     ]
 
 pub returns : goal.returns

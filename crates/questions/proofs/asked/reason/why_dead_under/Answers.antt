@@ -1,10 +1,8 @@
-use Rattle.std.proofs.Common.{◌≡◌, false, true, sym, ◌∙◌}
-use Rattle.std.proofs.lemmas.Bool.{true≢false}
+use Rattle.std.proofs.Common.{◌≡◌, false, true, sym, ◌∙◌, true≢false, slice_index_or}
 use Rattle.fields.specs.declared.packet.hook.Hook.{Hook}
 use Rattle.table.specs.chains.Table.{chain_at}
 use Rattle.table.specs.declared.walk.trail.Step.{Step}
 use Rattle.table.specs.steps.Kept.{hook_index}
-use Rattle.std.specs.Prelude.{slice_index_or}
 use Rattle.questions.specs.Ends.{IsRule, rule_at}
 use Rattle.questions.specs.Scopes.{table_of}
 use Rattle.questions.specs.asked.Reason.{IsReached, IsUnreached}

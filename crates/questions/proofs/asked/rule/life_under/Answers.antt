@@ -1,14 +1,11 @@
-use Rattle.std.proofs.Common.{◌≡◌, ◌⊎◌, false, get_or, refl, arith, sym, ◌∙◌, inl, inr, subst, Contains}
-use Rattle.std.specs.Prelude.{slice_index_or}
-use Rattle.std.proofs.lemmas.Bool.{true≢false}
+use Rattle.std.proofs.Common.{◌≡◌, ◌⊎◌, false, get_or, refl, arith, sym, ◌∙◌, inl, inr, slice_index_or, true≢false}
 use Rattle.fields.specs.declared.packet.hook.Hook.{Hook}
 use Rattle.fields.specs.declared.packet.hook.Hook.TheVariants.{Input}
 use Rattle.fields.specs.Hook.{all_hooks}
 use Rattle.table.specs.chains.Table.{chain_at}
 use Rattle.table.specs.declared.walk.trail.Step.{Step}
 use Rattle.table.specs.steps.Kept.{hook_index}
-use Rattle.table.specs.walk.Walk.{Entry, walk}
-use Rattle.questions.specs.Scopes.{answered, table_of}
+use Rattle.questions.specs.Scopes.{table_of}
 use Rattle.questions.specs.asked.Always.{IsAlwaysDeadAt, MayLive}
 use Rattle.questions.specs.asked.Reason.{IsLed}
 use Rattle.questions.specs.steps.Leading.{AreLeading}
@@ -73,8 +70,7 @@ pub returns-then-clear-clause-says : goal.returns-then-clear-clause-says
 returns-then-clear-clause-says c = λ a p can on.
     let s = c.args.subject.now in
     let step : Step = record { chain = c.args.place; number = c.args.number } in
-    let P : Entry → Type 0 = λ entry. Contains (walk (answered s a) p).trail entry in
-    each_hook (λ h. IsAlwaysDeadAt s step h) c.loop-hook.hook-index (omega arith) (c.loop-hook.invariant.dead c.if-clear.true) p.hook a p can refl (subst P (sym (entry_left s.needs.now a (table_of s) step)) on)
+    each_hook (λ h. IsAlwaysDeadAt s step h) c.loop-hook.hook-index (omega arith) (c.loop-hook.invariant.dead c.if-clear.true) p.hook a p can refl (rw (← entry_left s.needs.now a (table_of s) step) at on)
 
 pub returns-then-clear-clause-short : goal.returns-then-clear-clause-short
 returns-then-clear-clause-short c = λ dead.
@@ -99,6 +95,5 @@ returns-in-Live-clause-says c =
       consistent = consistent;
       live = λ a agrees.
           (let (p, writes, there, on) = live a agrees in
-          let P : Entry → Type 0 = λ entry. Contains (walk (answered s a) p).trail entry in
-          (p, writes, subst P (entry_left s.needs.now a (table_of s) step) on));
+          (p, writes, rw (entry_left s.needs.now a (table_of s) step) at on));
     }

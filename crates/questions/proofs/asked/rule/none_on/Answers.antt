@@ -1,5 +1,4 @@
-use Rattle.std.proofs.Common.{sym, ◌∙◌, arith, Contains}
-use Rattle.std.proofs.lemmas.Bool.{true≢false}
+use Rattle.std.proofs.Common.{sym, ◌∙◌, arith, Contains, true≢false}
 use Rattle.questions.specs.declared.walking.task.Leaf.{Leaf}
 use Rattle.questions.proofs.laws.TrailLaws.{items_next}
 use Rattle.questions.proofs.asked.rule.none_on.Goals as goal

@@ -1,4 +1,4 @@
-use Rattle.std.proofs.Common.{◌≡◌, ◌⊎◌, inl, inr, ℕ, ◌<◌, Bool, false, IsTrue, length, get_or, sym, ◌∙◌, arith, subst, Some, None}
+use Rattle.std.proofs.Common.{◌≡◌, ◌⊎◌, inl, inr, ℕ, ◌<◌, false, IsTrue, length, get_or, sym, ◌∙◌, arith, subst, Some, None}
 use Rattle.std.proofs.lemmas.List.{get_or_default}
 use Rattle.std.proofs.lemmas.Result.{IfOk-weaker}
 use Rattle.table.specs.steps.Kept.{hook_index}
@@ -72,6 +72,5 @@ returns-clause-known c = λ _.
     let calls = c.calls-call-items.result.now in
     let old = c.args.takers.now in
     let new = c.loop-call.takers in
-    let P : Bool → Type 0 = λ near. AddsAt s step near hook old new in
-    subst P (sym c.if-not-near.false) (adds_near s c.stands.ensures.sound step calls hook old new c.requires c.calls-call-items.ensures (λ own. c.if-hook_index-step.false (c.hook_index.ensures ∙ own)) c.loop-call.invariant.grows c.loop-call.invariant.each
+    rw (← c.if-not-near.false) at (adds_near s c.stands.ensures.sound step calls hook old new c.requires c.calls-call-items.ensures (λ own. c.if-hook_index-step.false (c.hook_index.ensures ∙ own)) c.loop-call.invariant.grows c.loop-call.invariant.each
     (λ k d lt to. c.loop-call.invariant.done k d (omega (arith, lt, c.loop-call-test.false)) to))

@@ -1,5 +1,5 @@
-use Rattle.std.proofs.Common.{◌<◌, sym, ◌∙◌, arith, get_or}
-use Rattle.std.proofs.lemmas.Bool.{true≢false}
+use Rattle.std.proofs.Common.{◌<◌, sym, ◌∙◌, arith, get_or, true≢false}
+use Rattle.questions.proofs.laws.CompareLaws.{each_hook}
 use Rattle.fields.specs.declared.packet.hook.Hook.{Hook}
 use Rattle.fields.specs.declared.packet.hook.Hook.TheVariants.{Input}
 use Rattle.fields.specs.Hook.{all_hooks}
@@ -10,7 +10,7 @@ use Rattle.questions.specs.Scopes.{table_of}
 use Rattle.questions.specs.steps.Deciding.{AddsAt, IsAsked, IsTakenAt}
 use Rattle.questions.proofs.laws.LeadLaws.{hook_leads, hook_led}
 use Rattle.questions.proofs.laws.LetInLaws.{takers_at_hooks}
-use Rattle.questions.proofs.laws.TakerLaws.{grows_same, hooks_all, hooks_next, nobody_takes, unled_at}
+use Rattle.questions.proofs.laws.TakerLaws.{grows_same, hooks_next, nobody_takes, unled_at}
 use Rattle.questions.proofs.asked.takers.takers_by.Goals as goal
 
 pub loop-hook-init : goal.loop-hook-init
@@ -68,7 +68,7 @@ returns c =
     let s = c.args.subject.now in
     let step = c.args.step in
     let takers = c.loop-hook.takers in
-    let at = hooks_all (IsTakenAt s step (IsAsked (table_of s) step c.args.near) takers) (λ k h lt. c.loop-hook.invariant.hooks k h (omega (arith, lt))) in
+    let at = each_hook (IsTakenAt s step (IsAsked (table_of s) step c.args.near) takers) 3 (omega arith) (λ k h lt. c.loop-hook.invariant.hooks k h (omega (arith, lt))) in
     takers_at_hooks s c.stands.ensures.sound step c.requires.step c.args.near takers at c.loop-hook.invariant.each c.loop-hook.invariant.once c.loop-hook.invariant.apart
 
 -- a hook that leads there, of whose packets it isn't known who decides them

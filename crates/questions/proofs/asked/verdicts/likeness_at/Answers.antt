@@ -1,6 +1,5 @@
-use Rattle.std.proofs.Common.{◌≡◌, ◌≢◌, inl, rules, sym, ◌∙◌}
+use Rattle.std.proofs.Common.{◌≡◌, ◌≢◌, inl, rules, sym, ◌∙◌, true≢false}
 use Rattle.std.proofs.lemmas.Result.{IfOk-weaker}
-use Rattle.std.proofs.lemmas.Bool.{true≢false}
 use Rattle.questions.specs.Scopes.{table_of, whole_of}
 use Rattle.questions.specs.asked.Differing.{IsUnclearIf, MayDiffer, MayDifferOn}
 use Rattle.questions.specs.declared.asked.likeness.Likeness.{Likeness}

@@ -1,6 +1,5 @@
-use Rattle.std.proofs.Common.{get_or, sym, ◌∙◌, arith}
+use Rattle.std.proofs.Common.{get_or, sym, ◌∙◌, arith, true≢false}
 use Rattle.table.specs.declared.walk.trail.Step.{Step}
-use Rattle.std.proofs.lemmas.Bool.{true≢false}
 use Rattle.std.proofs.lemmas.List.{get_or_default}
 use Rattle.questions.specs.asked.Alike.{IsAlwaysSettled}
 use Rattle.questions.proofs.laws.TrailLaws.{items_next}

@@ -24,11 +24,10 @@ loop-field-preserved c =
         | inl before ↦ c.loop-field.invariant.only numbers is (c.in_ok-own-2.ensures.own numbers is has) k d before
         | inr past ↦ (
             let same : i ≡ k = omega (arith, lt, past) in
-            let P : ℕ → Type 0 = λ j. number_on numbers (get_or all_fields j d) ≡ point c.args.packet.now (get_or all_fields j d) in
             let Q : Field → Type 0 = λ g. number_on numbers g ≡ point c.args.packet.now g in
             let here : Q (get_or all_fields i field.Source) =
             itself_within c.point-number.result (number_on numbers (get_or all_fields i field.Source)) (sym (c.in_ok-set.ensures.members _) ∙ c.in_ok-own-2.ensures.members numbers is has) ∙ c.point-number.ensures.value in
-            subst P same (subst Q (get_or_default all_fields i field.Source d (omega (arith, c.loop-field-test.true))) here))
+            rw same at (subst Q (get_or_default all_fields i field.Source d (omega (arith, c.loop-field-test.true))) here))
       ];
     }
 

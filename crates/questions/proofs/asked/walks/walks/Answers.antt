@@ -1,5 +1,4 @@
-use Rattle.std.proofs.Common.{rules, ◌≡◌, Bool, sym, subst, All}
-use Rattle.std.specs.Prelude.{filter}
+use Rattle.std.proofs.Common.{rules, ◌≡◌, Bool, sym, subst, All, filter}
 use Rattle.std.proofs.lemmas.Fn.{filter_same}
 use Rattle.std.proofs.lemmas.List.Elements.{All-filter}
 use Rattle.classify.specs.Classifier.{box_matches}

@@ -1,12 +1,11 @@
-use Rattle.std.proofs.Common.{◌≡◌, ◌+◌, ◌-◌, ◌<◌, [], ◌∷◌, inl, length, sym, ◌∙◌, arith, subst}
-use Rattle.std.proofs.lemmas.Bool.{true≢false}
+use Rattle.std.proofs.Common.{◌≡◌, ◌+◌, ◌-◌, ◌<◌, [], ◌∷◌, inl, length, sym, ◌∙◌, arith, true≢false}
 use Rattle.std.proofs.lemmas.List.{get_or_default}
 use Rattle.std.proofs.lemmas.List.Elements.{Contains-append_left}
 use Rattle.rules.specs.rule.Rules.{Rule, empty_rule}
 use Rattle.table.specs.chains.Table.{chain_at}
 use Rattle.table.specs.declared.walk.trail.Step.{Step}
 use Rattle.questions.specs.Ends.{rule_at}
-use Rattle.questions.specs.steps.Leading.{NamesMarked, IsWay}
+use Rattle.questions.specs.steps.Leading.{IsWay}
 use Rattle.questions.proofs.laws.BoxesLaws.{all_below, below_pass, below_take, none_below, only_take}
 use Rattle.questions.proofs.laws.WayLaws.{way_first, way_last}
 use Rattle.questions.proofs.asked.ways.add_ways.Goals as goal
@@ -23,13 +22,12 @@ loop-passed-preserved c =
     let within : i < length (chain_at t place).rules = omega (arith, c.loop-passed-test.true, c.rule_count-passed-end.ensures) in
     let own : Rule = c.rule.result.now in
     let is : own ≡ rule_at t by = c.rule.ensures ∙ get_or_default (chain_at t place).rules (i + 1 - 1) own empty_rule (omega (arith, within)) in
-    let P : Rule → Type 0 = λ r. NamesMarked t.chains marks r in
     let Way : Step → Type 0 = λ x. IsWay t marks x in
     elim c.if-names_marked.branch [
       | then-names_marked+in_ok-push w ↦ (
           let way : IsWay t marks by = record {
             rule = record { chain = c.requires.place; first = omega arith; last = omega (arith, within) };
-            names = subst P is (c.names_marked.ensures.0 w.if-names_marked.true);
+            names = rw is at (c.names_marked.ensures.0 w.if-names_marked.true);
           } in
           rw (w.ways-is, w.in_ok-push.ensures.items) (record {
             kept = λ x h. Contains-append_left old (by ∷ []) x (c.loop-passed.invariant.kept x h);
@@ -38,7 +36,7 @@ loop-passed-preserved c =
           }))
       | else-names_marked w ↦ rw w.ways-is (record {
         kept = c.loop-passed.invariant.kept;
-        below = below_pass Way place i old c.loop-passed.invariant.below (λ way. true≢false (sym (c.names_marked.ensures.1 (subst P (sym is) way.names)) ∙ w.if-names_marked.false));
+        below = below_pass Way place i old c.loop-passed.invariant.below (λ way. true≢false (sym (c.names_marked.ensures.1 (rw (← is) at way.names)) ∙ w.if-names_marked.false));
         only = c.loop-passed.invariant.only;
       })
     ]

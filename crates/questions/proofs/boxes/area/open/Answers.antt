@@ -1,5 +1,4 @@
-use Rattle.std.proofs.Common.{◌<◌, ◌∙◌, arith}
-use Rattle.std.proofs.lemmas.List.{length-set}
+use Rattle.std.proofs.Common.{◌<◌, ◌∙◌, arith, length-set}
 use Rattle.fields.specs.declared.numbers.field.TheConstants.{FIELDS}
 use Rattle.questions.proofs.laws.AreaLaws.{begins_next, begun_here}
 use Rattle.questions.proofs.boxes.area.open.Goals as goal

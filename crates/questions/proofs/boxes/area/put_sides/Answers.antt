@@ -1,5 +1,4 @@
-use Rattle.std.proofs.Common.{◌<◌, sym, ap, ◌∙◌, arith}
-use Rattle.std.proofs.lemmas.List.{length-set}
+use Rattle.std.proofs.Common.{◌<◌, sym, ap, ◌∙◌, arith, length-set}
 use Rattle.fields.specs.numbers.Spans.{SpanSet}
 use Rattle.fields.specs.declared.numbers.field.TheConstants.{FIELDS}
 use Rattle.questions.proofs.laws.AreaLaws.{same_tops, sides_next}

@@ -1,7 +1,5 @@
-use Rattle.std.proofs.Common.{subst, ℕ, List, [], get_or, refl}
+use Rattle.std.proofs.Common.{[], get_or, refl}
 use Rattle.std.proofs.lemmas.List.Elements.{Contains-get_or}
-use Rattle.rules.specs.declared.rule.port_sets.Crossing.{Crossing}
-use Rattle.rules.specs.rule.Crossing.{SaysOf, cross}
 use Rattle.questions.proofs.laws.AreaLaws.{apart_of, cut_of, fails_all, in_ports}
 use Rattle.questions.proofs.laws.PartLaws.{met_numbers, none_disjoint, one_disjoint}
 use Rattle.questions.proofs.boxes.cut.cut_by.Goals as goal
@@ -12,15 +10,13 @@ returns-then-not-meet-clause-cuts c =
 
 pub returns-in-Fails-clause-cuts : goal.returns-in-Fails-clause-cuts
 returns-in-Fails-clause-cuts c =
-    let P : Crossing → Type 0 = λ said. SaysOf (λ (numbers : List ℕ). cross numbers c.args.rule.now) c.on.result.now c.on-2.result.now said in
-    let fails = subst P c.in-Fails.is c.in_ok-cross_ports.ensures.says in
+    let fails = rw c.in-Fails.is at c.in_ok-cross_ports.ensures.says in
     fails_all c.args.rule.now c.args.area.now c.args.boxed.now c.in_ok-inside.inside c.requires (rw c.spans-2.ensures.value at c.in_ok-inside.ensures)
     (λ numbers point h. fails numbers (in_ports c.in_ok-inside.inside c.on.result.now c.on-2.result.now numbers c.on.ensures.top c.on.ensures.set c.on-2.ensures.top c.on-2.ensures.set point h))
 
 pub returns-in_ok-others-in-Holds-clause-cuts : goal.returns-in_ok-others-in-Holds-clause-cuts
 returns-in_ok-others-in-Holds-clause-cuts c =
-    let P : Crossing → Type 0 = λ said. SaysOf (λ (numbers : List ℕ). cross numbers c.args.rule.now) c.on.result.now c.on-2.result.now said in
-    let holds = subst P c.in-Holds.is c.in_ok-cross_ports.ensures.says in
+    let holds = rw c.in-Holds.is at c.in_ok-cross_ports.ensures.says in
     cut_of c.args.rule.now c.args.area.now c.args.boxed.now c.in_ok-inside.inside c.requires (rw c.spans-2.ensures.value at c.in_ok-inside.ensures) c.in_ok-others-in-Holds.others.items
     (rw (c.sets-in-Holds.ensures.value, c.spans-in-Holds.ensures.value) at c.in_ok-others-in-Holds.ensures.all) (rw (c.sets-in-Holds.ensures.value, c.spans-in-Holds.ensures.value) at c.in_ok-others-in-Holds.ensures.only)
     (λ numbers point h. holds numbers (in_ports c.in_ok-inside.inside c.on.result.now c.on-2.result.now numbers c.on.ensures.top c.on.ensures.set c.on-2.ensures.top c.on-2.ensures.set point h))

@@ -1,5 +1,5 @@
-use Rattle.std.proofs.Common.{◌∙◌, true, false, ap, not, arith, inl, inr, sym}
-use Rattle.std.proofs.lemmas.Bool.{cases_Bool, true≢false}
+use Rattle.std.proofs.Common.{◌∙◌, true, false, ap, not, arith, inl, inr, sym, true≢false}
+use Rattle.std.proofs.lemmas.Bool.{cases_Bool}
 use Rattle.fields.specs.numbers.Field.{number_on}
 use Rattle.fields.specs.numbers.Spans.{has}
 use Rattle.questions.proofs.laws.AreaLaws.{two_only, two_parts}

@@ -1,5 +1,5 @@
-use Rattle.std.proofs.Common.{◌≡◌, ◌<◌, ◌≤◌, ℕ, List, inl, inr, sym, ◌∙◌, true, length, get_or, arith, subst}
-use Rattle.std.proofs.lemmas.Bool.{cases_Bool, true≢false}
+use Rattle.std.proofs.Common.{◌≡◌, ◌<◌, ◌≤◌, ℕ, List, inl, inr, sym, ◌∙◌, true, length, get_or, arith, true≢false}
+use Rattle.std.proofs.lemmas.Bool.{cases_Bool}
 use Rattle.std.proofs.lemmas.List.{get_or_default}
 use Rattle.fields.specs.declared.numbers.field.Field.{Field}
 use Rattle.fields.specs.numbers.Field.{all_fields, index, number_on, top}
@@ -18,9 +18,8 @@ use Rattle.questions.proofs.boxes.matched.has_on.Goals as goal
 -- a set that has all numbers up to its top has one of its field
 in_whole : (box : List SpanSet) (k : ℕ) (f : Field) (x : ℕ) → IsBox box → k ≡ index f → x ≤ top f → IsWhole (get_or box k no_set) → box_allows box f x ≡ true
 in_whole box k f x is at le whole =
-    let P : ℕ → Type 0 = λ i. has (get_or box i no_set).intervals x ≡ true in
     let same : (get_or box k no_set).top ≡ top f = top_on box is f k no_set at in
-    subst P at (whole x (omega (arith, le, same)))
+    rw (at) at (whole x (omega (arith, le, same)))
 
 pub returns : goal.returns
 returns c =

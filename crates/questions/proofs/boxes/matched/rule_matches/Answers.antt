@@ -1,5 +1,4 @@
-use Rattle.std.proofs.Common.{◌≡◌, ◌∙◌, ◌-◌, ap, arith, sym, true, false}
-use Rattle.std.specs.Prelude.{◌&&◌}
+use Rattle.std.proofs.Common.{◌≡◌, ◌∙◌, ◌-◌, ap, arith, sym, true, false, ◌&&◌}
 use Rattle.std.proofs.lemmas.List.{get_or_default}
 use Rattle.rules.specs.rule.Allows.{allows_each}
 use Rattle.rules.specs.rule.Crossing.{cross}

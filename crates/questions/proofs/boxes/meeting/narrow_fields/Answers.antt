@@ -1,5 +1,5 @@
-use Rattle.std.proofs.Common.{◌≡◌, ℕ, Bool, true, false, not, get_or, refl, sym, arith, subst, ◌∙◌}
-use Rattle.std.proofs.lemmas.List.{get_or_default, length-set}
+use Rattle.std.proofs.Common.{◌≡◌, ℕ, Bool, true, false, not, get_or, refl, sym, arith, subst, ◌∙◌, length-set}
+use Rattle.std.proofs.lemmas.List.{get_or_default}
 use Rattle.fields.specs.numbers.Spans.{SpanSet}
 use Rattle.rules.proofs.laws.BoxLaws.{box_long}
 use Rattle.questions.specs.boxes.Cut.{IsWhole}

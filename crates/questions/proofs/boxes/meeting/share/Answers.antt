@@ -1,5 +1,4 @@
-use Rattle.std.proofs.Common.{[], refl, sym, arith, List, ap, inl, inr, Bor, subst}
-use Rattle.std.proofs.lemmas.Bool.{true≢false}
+use Rattle.std.proofs.Common.{[], refl, sym, arith, List, ap, inl, inr, Bor, subst, true≢false}
 use Rattle.fields.specs.declared.numbers.spans.Interval.{Interval}
 use Rattle.fields.proofs.laws.numbers.MeetLaws.{Appended, appended_none, Advanced, meeting_next, meeting_ended}
 use Rattle.questions.proofs.laws.PartLaws.{AreOf, common_of, of_behind}

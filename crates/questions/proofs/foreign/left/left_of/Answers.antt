@@ -1,11 +1,10 @@
-use Rattle.std.proofs.Common.{◌∙◌, get_or, Vec, Global, ap, arith}
-use Rattle.std.proofs.lemmas.List.{take_all}
+use Rattle.std.proofs.Common.{◌∙◌, get_or, Vec, Global, ap, arith, take_all, sym}
 use Rattle.std.proofs.lemmas.Result.{IfOk-weaker}
 use Rattle.questions.specs.Foreign.{all_hold}
 use Rattle.questions.specs.declared.foreign.need.Need.{Need}
 use Rattle.questions.specs.steps.Answered.{AreAlike, AreFree}
 use Rattle.questions.proofs.laws.AnswerLaws.{is_met}
-use Rattle.questions.proofs.laws.RemainLaws.{free_more, free_never, met_more, open_more, unmet_alike}
+use Rattle.questions.proofs.laws.RemainLaws.{free_more, met_more, open_more, unmet_alike, never_both}
 use Rattle.questions.proofs.foreign.left.left_of.Goals as goal
 use Rattle.questions.proofs.foreign.left.left_of.Goals.{in-None+in_ok-push-in-None, in-Some+else-holds-need}
 
@@ -38,4 +37,4 @@ returns-then-holds-need-clause-alike c =
 
 pub returns-then-holds-need-clause-free : goal.returns-then-holds-need-clause-free
 returns-then-holds-need-clause-free c =
-    IfOk-weaker c.unmeetable.result _ (λ (left : Vec Need Global). AreFree c.args.answers.now left.items) (λ both is. rw is (free_never c.args.answers.now _)) c.unmeetable.ensures
+    IfOk-weaker c.unmeetable.result _ (λ (left : Vec Need Global). AreFree c.args.answers.now left.items) (λ both is. rw is (λ a b agree. never_both a _ ∙ sym (never_both b _))) c.unmeetable.ensures

@@ -1,5 +1,4 @@
-use Rattle.std.proofs.Common.{◌<◌, ◌∙◌, arith}
-use Rattle.std.proofs.lemmas.List.{length-set}
+use Rattle.std.proofs.Common.{◌<◌, ◌∙◌, arith, length-set}
 use Rattle.fields.specs.declared.numbers.field.TheConstants.{FIELDS}
 use Rattle.questions.proofs.laws.ChoiceLaws.{chosen, next_number}
 use Rattle.questions.proofs.sampling.choice.numbers_of.Goals as goal

@@ -1,5 +1,4 @@
-use Rattle.std.proofs.Common.{List, ℕ, ◌<◌, ◌++◌, ◌∷◌, ◌≡◌, length, get_or, ap, sym, subst, ◌∙◌, take, append_assoc, arith}
-use Rattle.std.proofs.lemmas.List.{take_all}
+use Rattle.std.proofs.Common.{List, ℕ, ◌<◌, ◌++◌, ◌∷◌, ◌≡◌, length, get_or, ap, sym, subst, ◌∙◌, take, append_assoc, arith, take_all}
 use Rattle.fields.specs.declared.numbers.field.Field.TheVariants.{Source}
 use Rattle.fields.specs.numbers.Field.{all_fields}
 use Rattle.fields.specs.Hook.{name}

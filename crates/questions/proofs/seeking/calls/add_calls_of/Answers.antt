@@ -8,7 +8,7 @@ use Rattle.table.specs.declared.walk.trail.Step.{Step}
 use Rattle.questions.specs.Ends.{rule_at}
 use Rattle.questions.specs.boxes.Calls.{IsCall, place_named}
 use Rattle.questions.specs.declared.seeking.calls.Call.{Call}
-use Rattle.questions.proofs.laws.WayLaws.{all_called, called_next, none_called, not_called, now_called, still_called}
+use Rattle.questions.proofs.laws.WayLaws.{all_called, called_next, not_called, now_called, still_called}
 use Rattle.questions.proofs.seeking.calls.add_calls_of.Goals as goal
 use Rattle.questions.proofs.seeking.calls.add_calls_of.Goals.{in-Some+in_ok-push, in_default}
 
@@ -41,7 +41,7 @@ loop-passed-preserved c =
     ]
 
 pub loop-passed-init : goal.loop-passed-init
-loop-passed-init c = record { kept = λ by h. h; only = λ h. h; below = none_called c.args.table.now.table c.args.place c.args.calls.now.items }
+loop-passed-init c = record { kept = λ by h. h; only = λ h. h; below = λ by at le to is names. absurd (omega (arith, le, is.first)) }
 
 pub returns : goal.returns
 returns c =

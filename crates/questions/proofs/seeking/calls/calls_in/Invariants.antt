@@ -1,5 +1,4 @@
-use Rattle.std.proofs.Common.{◌<◌}
-use Rattle.std.specs.Prelude.{All}
+use Rattle.std.proofs.Common.{◌<◌, All}
 use Rattle.table.specs.declared.walk.trail.Step.{Step}
 use Rattle.questions.specs.boxes.Calls.{IsCall, IsCalled}
 use Rattle.questions.proofs.seeking.calls.calls_in.Given as goal

@@ -1,6 +1,8 @@
-use Rattle.std.proofs.Common.{inl, inr, Contains, subst, sym}
-use Rattle.table.specs.walk.Walk.{Entry, walk}
+use Rattle.std.proofs.Common.{inl, inr}
+use Rattle.questions.specs.Foreign.{Agrees, Assignment}
+use Rattle.questions.specs.Leaves.{entry_of}
 use Rattle.questions.specs.Scopes.{answered, table_of, whole_of}
+use Rattle.questions.specs.asked.Rule.{IsLiveAt}
 use Rattle.questions.specs.steps.Seeking.{IsForOne, TakesPlace, IsLonger}
 use Rattle.questions.proofs.laws.PacketLaws.{written_at_hooks}
 use Rattle.questions.proofs.laws.ResolvedLaws.{entry_left}
@@ -16,12 +18,11 @@ pub returns-then-branch : goal.returns-then-branch
 returns-then-branch c =
     let s = c.args.subject.now in
     let sample = c.args.sample in
-    let step = c.args.way.now.wanted in (
-      c.stand.ensures,
-      λ a agrees.
-          let P : Entry → Type 0 = λ entry. Contains (walk (answered s a) sample.packet).trail entry in
-          (sample.packet, c.requires.sample.writes, c.requires.sample.there, subst P (sym (entry_left s.needs.now a (table_of s) step)) (c.in_ok-is_shown-in-Comes.ensures c.if-branch.true a agrees)),
-    )
+    let step = c.args.way.now.wanted in
+    let live : (a : Assignment) → Agrees a c.in-Comes.answers → IsLiveAt (answered s a) (entry_of (answered s a).chains step) c.args.course.hook sample.words =
+    λ a agrees.
+    (sample.packet, c.requires.sample.writes, c.requires.sample.there, rw (← entry_left s.needs.now a (table_of s) step) at (c.in_ok-is_shown-in-Comes.ensures c.if-branch.true a agrees)) in
+    ((c.stand.ensures, live), (sample.packet, c.requires.sample))
 
 -- another chain, which rules enter
 pub returns-then-begins_elsewhere : goal.returns-then-begins_elsewhere

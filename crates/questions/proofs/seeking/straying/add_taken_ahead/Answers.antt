@@ -1,6 +1,6 @@
-use Rattle.std.proofs.Common.{◌≡◌, ◌+◌, ◌-◌, ℕ, refl, subst, arith}
+use Rattle.std.proofs.Common.{◌≡◌, ◌+◌, ◌-◌, refl, arith}
 use Rattle.table.specs.declared.walk.trail.Step.{Step}
-use Rattle.questions.specs.steps.Seeking.{AddsParts, KeepsIn, NoneAheadTakesOut}
+use Rattle.questions.specs.steps.Seeking.{KeepsIn, NoneAheadTakesOut}
 use Rattle.questions.proofs.laws.SeekLaws.{none_leaves_next, parts_none, parts_then, parts_weaker}
 use Rattle.questions.proofs.seeking.straying.add_taken_ahead.Goals as goal
 
@@ -17,8 +17,7 @@ loop-number-preserved c =
     let more = parts_then c.args.scope.now (NoneAheadTakesOut s by (number - 1)) (KeepsIn s ahead) (NoneAheadTakesOut s by (number - 1 + 1)) c.args.scopes.now.items c.loop-number.scopes.items c.add_taken.new.scopes.items
     (λ a p before here. none_leaves_next s by ahead (number - 1) a p refl (omega (arith, first)) before here) c.loop-number.invariant c.in_ok-add_taken.ensures in
     let e : number - 1 + 1 ≡ number + 1 - 1 = omega (arith, first) in
-    let P : ℕ → Type 0 = λ k. AddsParts c.args.scope.now (NoneAheadTakesOut s by k) c.args.scopes.now.items c.add_taken.new.scopes.items in
-    subst P e more
+    rw e at more
 
 pub returns : goal.returns
 returns c =

@@ -1,5 +1,4 @@
-use Rattle.std.proofs.Common.{◌≡◌, ◌<◌, Some, inl, inr, sym, arith}
-use Rattle.std.specs.Prelude.{slice_get}
+use Rattle.std.proofs.Common.{◌≡◌, ◌<◌, Some, inl, inr, sym, arith, slice_get}
 use Rattle.questions.proofs.laws.SeekLaws.{here_in_copy, not_away}
 use Rattle.questions.proofs.seeking.straying.others.Goals as goal
 

@@ -1,5 +1,4 @@
-use Rattle.std.proofs.Common.{◌≡◌, Some, inl, sym}
-use Rattle.std.specs.Prelude.{slice_get}
+use Rattle.std.proofs.Common.{◌≡◌, Some, inl, sym, slice_get}
 use Rattle.std.proofs.lemmas.Result.{IfOk-weaker}
 use Rattle.table.specs.declared.walk.trail.Step.{Step}
 use Rattle.questions.specs.steps.Seeking.{AddsParts, EndsAt, LeadsAwayAt}

@@ -1,5 +1,5 @@
-use Rattle.std.proofs.Common.{inl, inr, arith, sym, ◌∙◌}
-use Rattle.std.proofs.lemmas.Bool.{cases_Bool, ltb-true, true≢false}
+use Rattle.std.proofs.Common.{inl, inr, arith, sym, ◌∙◌, ltb-true, true≢false}
+use Rattle.std.proofs.lemmas.Bool.{cases_Bool}
 use Rattle.std.proofs.lemmas.List.{get_or_default}
 use Rattle.rules.specs.rule.Allows.{matches}
 use Rattle.questions.specs.steps.Seeking.{IsSeen}

@@ -1,5 +1,4 @@
-use Rattle.std.proofs.Common.{inl, inr, arith, sym, ◌∙◌}
-use Rattle.std.proofs.lemmas.Bool.{ltb-true, true≢false}
+use Rattle.std.proofs.Common.{inl, inr, arith, sym, ◌∙◌, ltb-true, true≢false}
 use Rattle.std.proofs.lemmas.List.{get_or_default}
 use Rattle.questions.proofs.laws.BeforeLaws.{same_step}
 use Rattle.questions.proofs.seeking.surely.stays_by.Goals as goal

@@ -1,8 +1,8 @@
-use Rattle.std.proofs.Common.{[], List, subst}
+use Rattle.std.proofs.Common.{[], List, subst, sym, All}
 use Rattle.questions.specs.declared.walking.scope.Scope.{Scope}
-use Rattle.questions.specs.steps.Seeking.{AddsBoxes, IsForOne, IsWayFor}
+use Rattle.questions.specs.steps.Seeking.{AddsBoxes, IsForOne, IsWayFor, IsBoxUnder}
 use Rattle.questions.proofs.laws.SeekLaws.{point_of}
-use Rattle.questions.proofs.laws.WayLaws.{adds_ways_as, boxes_under, but_less, met_by, one_less}
+use Rattle.questions.proofs.laws.WayLaws.{adds_ways_as, but_less, met_by, one_less}
 use Rattle.questions.proofs.seeking.walked.add_all_but.Goals as goal
 
 pub outside-requires-clause-met : goal.outside-requires-clause-met
@@ -28,5 +28,5 @@ returns-clause-less c =
     let scopes = c.add_boxes.new.scopes.items in
     let only = rw (c.sets.ensures.value, c.sets-2.ensures.value) at c.in_ok-parts.ensures.only in
     let added : AddsBoxes parts way.scope.answers [] scopes = subst (λ (old : List Scope). AddsBoxes parts way.scope.answers old scopes) c.new-scopes.ensures.items c.in_ok-add_boxes.ensures in
-    let less = but_less p way.scope c.args.own.now parts scopes (point_of p can) in_way in_own only (boxes_under parts way.scope.answers scopes added) in
+    let less = but_less p way.scope c.args.own.now parts scopes (point_of p can) in_way in_own only (subst (All (IsBoxUnder parts way.scope.answers)) (sym added.only.1) added.only.2) in
     adds_ways_as (IsForOne way scopes) (IsWayFor way) c.args.ways.now.items c.add_parts.new.ways.items (one_less way scopes less) c.in_ok-add_parts.ensures.each

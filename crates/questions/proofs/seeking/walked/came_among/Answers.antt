@@ -1,5 +1,4 @@
-use Rattle.std.proofs.Common.{sym, ◌∙◌, arith}
-use Rattle.std.proofs.lemmas.Bool.{true≢false}
+use Rattle.std.proofs.Common.{sym, ◌∙◌, arith, true≢false}
 use Rattle.questions.specs.steps.Tried.{IsGone}
 use Rattle.questions.proofs.laws.TrailLaws.{items_next}
 use Rattle.questions.proofs.seeking.walked.came_among.Goals as goal
@@ -21,9 +20,5 @@ returns-in-Some c =
       c.leaf-item.result,
       omega arith,
       sym c.leaf-item.is,
-      record {
-        inside = record { each = sym (rw c.sets.ensures.value at c.has.ensures) ∙ c.if-not-has.false };
-        on = found.0;
-        more = found.1;
-      },
+      record { inside = record { each = sym (rw c.sets.ensures.value at c.has.ensures) ∙ c.if-not-has.false }; on = found.0; more = found.1 },
     )

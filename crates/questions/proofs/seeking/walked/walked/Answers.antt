@@ -25,9 +25,11 @@ returns-in-Some-2 c =
     let s = c.args.subject.now in
     let p = c.args.sample.packet in
     let start : Scope = record { area = c.in_ok-area.area; answers = c.in_ok-answers.answers } in
-    let can : IsAtHook p = written_at_hooks c.args.sample.words p c.requires.sample.writes in
-    come_live s c.stands.ensures.sound c.args.way.now.wanted c.requires.step c.args.course.hook start c.in-Some.found.items p c.args.sample.words c.in-Some-2.answers (rw c.in-Some.is at c.in_ok-found.ensures.exact)
-    (rw (c.in-Some-2.is, c.as_slice.ensures.value, c.at-needs.ensures) at c.in_ok-answers-2.ensures) can c.requires.sample.there c.requires.sample.writes c.stand.ensures
+    let can : IsAtHook p = written_at_hooks c.args.sample.words p c.requires.sample.writes in (
+      come_live s c.stands.ensures.sound c.args.way.now.wanted c.requires.step c.args.course.hook start c.in-Some.found.items p c.args.sample.words c.in-Some-2.answers (rw c.in-Some.is at c.in_ok-found.ensures.exact)
+          (rw (c.in-Some-2.is, c.as_slice.ensures.value, c.at-needs.ensures) at c.in_ok-answers-2.ensures) can c.requires.sample.there c.requires.sample.writes c.stand.ensures,
+      (p, c.requires.sample),
+    )
 
 pub returns : goal.returns
 returns c =

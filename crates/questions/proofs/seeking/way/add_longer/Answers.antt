@@ -3,8 +3,8 @@ use Rattle.std.proofs.lemmas.List.{get_or_default}
 use Rattle.questions.specs.declared.seeking.calls.Call.{Call}
 use Rattle.questions.specs.Scopes.{table_of, whole_of}
 use Rattle.questions.specs.boxes.Calls.{IsCall}
-use Rattle.questions.specs.steps.Seeking.{IsTakenBy, top_of, IsLonger}
-use Rattle.questions.proofs.laws.SeekLaws.{AreTakenFrom, taken_next, taken_over}
+use Rattle.questions.specs.steps.Seeking.{top_of, IsLonger}
+use Rattle.questions.proofs.laws.SeekLaws.{taken_next, taken_over}
 use Rattle.questions.proofs.laws.WayLaws.{adds_none, adds_on}
 use Rattle.questions.proofs.seeking.way.add_longer.Goals as goal
 use Rattle.questions.proofs.seeking.way.add_longer.Goals.{then-to-chain+in_ok-add_by, else-to-chain}
@@ -28,12 +28,11 @@ loop-before-preserved c =
     elim c.if-to-chain.branch [
       | then-to-chain+in_ok-add_by w ↦ (
           let new = w.add_by.new.ways.items in
-          let P : Call → Type 0 = λ call. IsTakenBy s way call.by new in
           rw w.ways-is (record {
             kept = λ a p h. w.in_ok-add_by.ensures.takes.kept a p (c.loop-before.invariant.kept a p h);
             wanted = λ step is all. w.in_ok-add_by.ensures.takes.wanted step is (c.loop-before.invariant.wanted step is all);
             longer = adds_on (IsLonger (whole_of s) way) c.args.ways.now.items old new c.loop-before.invariant.longer (w.in_ok-add_by.ensures.longer (call w.if-to-chain.true));
-            taken = taken_next s c.stands.ensures.sound way chain calls before old new c.loop-before-test.true w.in_ok-add_by.ensures.takes.kept (λ d to. subst P (sym (same d)) w.in_ok-add_by.ensures.takes.taken) c.loop-before.invariant.taken;
+            taken = taken_next s c.stands.ensures.sound way chain calls before old new c.loop-before-test.true w.in_ok-add_by.ensures.takes.kept (λ d to. rw (← same d) at w.in_ok-add_by.ensures.takes.taken) c.loop-before.invariant.taken;
           }))
       | else-to-chain w ↦ rw w.ways-is (record {
         kept = c.loop-before.invariant.kept;
@@ -51,7 +50,6 @@ returns-clause-takes c =
     let s = c.args.subject.now in
     let way = c.args.way.now in
     let calls = c.calls-calls.result.now in
-    let P : ℕ → Type 0 = λ chain. AreTakenFrom s way chain calls c.loop-before.before c.loop-before.ways.items in
-    let Q = subst P c.chain-chain.ensures c.loop-before.invariant.taken in
+    let Q = rw c.chain-chain.ensures at c.loop-before.invariant.taken in
     taken_over s c.stands.ensures.sound c.args.hook way calls c.args.ways.now.items c.loop-before.ways.items c.calls-calls.ensures c.requires.there c.requires.other c.loop-before.invariant.kept
     (λ k d lt le to. Q k d lt (omega (arith, le, c.loop-before-test.false)) to) c.loop-before.invariant.wanted

@@ -1,5 +1,4 @@
-use Rattle.std.proofs.Common.{◌≡◌, ◌⊎◌, ◌++◌, List, vec_len}
-use Rattle.std.specs.Prelude.{Any}
+use Rattle.std.proofs.Common.{◌≡◌, ◌⊎◌, ◌++◌, List, vec_len, Any}
 use Rattle.fields.specs.Packet.{PacketView as Packet}
 use Rattle.questions.specs.Foreign.{Assignment}
 use Rattle.questions.specs.declared.foreign.subject.Subject.{Subject}

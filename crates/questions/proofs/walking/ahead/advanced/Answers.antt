@@ -1,5 +1,4 @@
-use Rattle.std.proofs.Common.{List, [], ◌∷◌, ◌<◌, ◌≡◌, length, inl, inr, refl, sym, ◌∙◌, ap, subst, arith}
-use Rattle.std.proofs.lemmas.List.{length-append}
+use Rattle.std.proofs.Common.{List, [], ◌∷◌, ◌<◌, ◌≡◌, length, inl, inr, refl, sym, ◌∙◌, ap, subst, arith, length-append}
 use Rattle.std.proofs.lemmas.List.Elements.{All-pop}
 use Rattle.table.specs.chains.Table.{chain_at}
 use Rattle.questions.specs.Scopes.{answered, known_by, table_of}

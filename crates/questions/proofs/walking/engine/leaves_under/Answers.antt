@@ -1,3 +1,4 @@
+use Rattle.std.proofs.Math.Numerals.{add-one}
 use Rattle.std.proofs.Common.{◌≡◌, ◌<◌, false, List, length, refl, sym, subst, arith, inl, inr, Some}
 use Rattle.std.proofs.lemmas.List.Elements.{All-pop}
 use Rattle.questions.specs.Foreign.{AreAsked, Assignment}
@@ -9,7 +10,7 @@ use Rattle.questions.specs.declared.walking.task.Task.{Task}
 use Rattle.questions.specs.steps.Taken.{IsFull, IsStep}
 use Rattle.questions.specs.steps.Waiting.{AreThere}
 use Rattle.questions.proofs.laws.ResolvedLaws.{front_back}
-use Rattle.questions.proofs.laws.StepLaws.{all_exact, all_leaves, begun_next, gets_on}
+use Rattle.questions.proofs.laws.StepLaws.{all_exact, all_leaves, begun_next}
 use Rattle.questions.proofs.walking.engine.leaves_under.Goals as goal
 
 pub loop-taken-init : goal.loop-taken-init
@@ -57,7 +58,7 @@ loop-taken-preserved c =
       asked = c.in_ok-step-in-Some.ensures.asked given own (record { tasks = before.0; leaves = c.loop-taken.invariant.asked.leaves });
       kept = c.in_ok-next-in-Some.ensures.kept c.args.start.area c.loop-taken.invariant.kept;
       begins = λ a. begun_next (whole_of s) a c.args.hook c.args.start old c.step.new.front (c.loop-taken.invariant.begins a) step;
-      gets = gets_on (whole_of s) c.args.hook c.args.start c.loop-taken.taken old c.step.new.front c.loop-taken.invariant.gets step;
+      gets = record { first = c.loop-taken.invariant.gets.first; begins = c.loop-taken.invariant.gets.begins; takes = rw (add-one c.loop-taken.taken) (old, c.loop-taken.invariant.gets.takes, step) };
     }
 
 pub returns-in-None-clause-steps : goal.returns-in-None-clause-steps

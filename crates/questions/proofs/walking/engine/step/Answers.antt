@@ -1,5 +1,4 @@
-use Rattle.std.proofs.lemmas.Bool.{true≢false}
-use Rattle.std.proofs.Common.{◌+◌, List, length, sym, subst, arith}
+use Rattle.std.proofs.Common.{◌+◌, length, arith, true≢false}
 use Rattle.fields.specs.numbers.Field.{all_fields}
 use Rattle.std.proofs.lemmas.List.{nil_from_length}
 use Rattle.std.proofs.lemmas.List.Elements.{All-pop}
@@ -9,8 +8,7 @@ use Rattle.questions.specs.steps.Waiting.{IsThere, rests_of}
 use Rattle.questions.proofs.laws.ForeignLaws.{left_sound}
 use Rattle.questions.proofs.laws.ResolvedLaws.{all_left, count_left, there_left}
 use Rattle.questions.proofs.laws.WaitLaws.{at_rest, at_no_rest, comes_back, ended}
-use Rattle.questions.specs.declared.walking.task.Pending.{Pending}
-use Rattle.questions.specs.steps.Taken.{AddsTasks, GetsOn}
+use Rattle.questions.specs.steps.Taken.{GetsOn}
 use Rattle.questions.proofs.laws.PartedLaws.{adds_none, back_on, more_parts, one_part}
 use Rattle.questions.proofs.walking.engine.step.Goals as goal
 
@@ -56,8 +54,7 @@ returns-then-at-rule_count-clause-on c =
 
 pub returns-else-at-rule_count-clause-on : goal.returns-else-at-rule_count-clause-on
 returns-else-at-rule_count-clause-on c =
-    let P : List Pending → Type 0 = λ rests. AddsTasks (GetsOn (whole_of c.args.subject.now) c.args.task.scope rests c.args.task.trail.items) c.args.front.now c.ask.new.front in
-    on_ok_weaker c.ask.result (λ h. subst P (sym c.in-Some.ensures.items) h) c.ask.ensures.on
+    on_ok_weaker c.ask.result (λ h. rw (← c.in-Some.ensures.items) at h) c.ask.ensures.on
 
 pub returns-in-None-clause-asked : goal.returns-in-None-clause-asked
 returns-in-None-clause-asked c = on_ok_weaker c.add_leaf.result (λ h. h c.args.subject.now.needs.now) c.add_leaf.ensures.asked

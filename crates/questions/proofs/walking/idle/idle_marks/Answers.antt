@@ -1,6 +1,4 @@
-use Rattle.std.proofs.Common.{ℕ, Bool, false, [], ◌∷◌, length, arith, sym, subst, ap, IsTrue}
-use Rattle.std.specs.Prelude.{◌↔◌}
-use Rattle.std.proofs.lemmas.List.{length-append}
+use Rattle.std.proofs.Common.{ℕ, Bool, false, [], ◌∷◌, length, arith, sym, subst, ap, IsTrue, ◌↔◌, length-append}
 use Rattle.table.specs.chains.Table.{chain_at}
 use Rattle.questions.specs.Scopes.{table_of}
 use Rattle.questions.specs.asked.Idle.{AreIdle}

@@ -1,5 +1,5 @@
-use Rattle.std.proofs.Common.{ℕ, [], ◌∷◌, length, map, arith, sym, subst, ap}
-use Rattle.std.proofs.lemmas.List.{length-append, length-map}
+use Rattle.std.proofs.Common.{ℕ, [], ◌∷◌, length, map, arith, sym, subst, ap, length-append}
+use Rattle.std.proofs.lemmas.List.{length-map}
 use Rattle.questions.specs.Scopes.{table_of}
 use Rattle.questions.specs.steps.Ending.{AreSparedIn, items_in, listed}
 use Rattle.questions.proofs.laws.IdleLaws.{asked_before, chains_more, spared_all}

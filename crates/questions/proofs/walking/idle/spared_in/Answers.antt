@@ -1,5 +1,5 @@
-use Rattle.std.proofs.Common.{ℕ, [], ◌∷◌, length, arith, sym, subst, ap}
-use Rattle.std.proofs.lemmas.List.{length-append, length-map}
+use Rattle.std.proofs.Common.{ℕ, [], ◌∷◌, length, arith, sym, subst, ap, length-append}
+use Rattle.std.proofs.lemmas.List.{length-map}
 use Rattle.questions.specs.Scopes.{table_of}
 use Rattle.questions.specs.steps.Ending.{items_in}
 use Rattle.questions.proofs.laws.IdleLaws.{IsSparedAt, spared_more}

@@ -1,5 +1,4 @@
-use Rattle.std.proofs.Common.{get_or}
-use Rattle.std.proofs.lemmas.Bool.{ltb-true}
+use Rattle.std.proofs.Common.{get_or, ltb-true}
 use Rattle.questions.specs.Scopes.{table_of}
 use Rattle.questions.proofs.laws.LengthLaws.{short_by}
 use Rattle.questions.proofs.walking.lengths.are_short.Goals as goal

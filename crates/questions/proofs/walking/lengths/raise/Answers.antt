@@ -1,7 +1,6 @@
-use Rattle.std.proofs.Common.{◌≡◌, ◌+◌, ◌<◌, ◌≤◌, false, true, sym, ◌∙◌, ap, arith}
-use Rattle.std.proofs.lemmas.Bool.{true≢false}
+use Rattle.std.proofs.Common.{◌≡◌, ◌+◌, ◌<◌, ◌≤◌, false, true, sym, ◌∙◌, ap, arith, true≢false}
 use Rattle.questions.specs.steps.Lengths.{AreBounds, room_left}
-use Rattle.questions.proofs.laws.LengthLaws.{bounds_next, raises_then}
+use Rattle.questions.proofs.laws.LengthLaws.{bounds_next}
 use Rattle.questions.proofs.walking.lengths.raise.Goals as goal
 use Rattle.questions.proofs.walking.lengths.raise.Goals.{then-raise_at, else-raise_at}
 
@@ -23,4 +22,4 @@ loop-place-preserved c =
       | then-raise_at w ↦ (λ on. (let h = c.raise_at.ensures.less w.if-raise_at.true in omega (arith, h, c.loop-place.invariant.least)))
       | else-raise_at w ↦ (λ on. (let h = ap room_left (c.raise_at.ensures.same w.if-raise_at.false) in let k = c.loop-place.invariant.less (sym w.is_more-is ∙ on) in omega (arith, h, k)))
     ] in
-    record { raised = raises_then t first old new c.loop-place.invariant.raised c.raise_at.ensures.raised; least = least; less = less; bounds = bounds }
+    record { raised = record { long = c.raise_at.ensures.raised.long ∙ c.loop-place.invariant.raised.long; below = λ bounds are below. c.raise_at.ensures.raised.below bounds are (c.loop-place.invariant.raised.below bounds are below) }; least = least; less = less; bounds = bounds }

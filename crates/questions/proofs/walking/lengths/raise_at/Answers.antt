@@ -1,7 +1,6 @@
-use Rattle.std.proofs.Common.{◌≡◌, ◌<◌, ℕ, arith, length, subst, sym}
-use Rattle.std.specs.Prelude.{slice_set}
+use Rattle.std.proofs.Common.{◌≡◌, ◌<◌, arith, length}
 use Rattle.std.proofs.lemmas.List.{get_or_default}
-use Rattle.questions.specs.steps.Lengths.{Raises, added_at}
+use Rattle.questions.specs.steps.Lengths.{added_at}
 use Rattle.questions.proofs.laws.LengthLaws.{raised, room_less}
 use Rattle.questions.proofs.walking.lengths.raise_at.Goals as goal
 
@@ -10,8 +9,7 @@ returns-clause-raised c =
     let t = c.args.table.now.table in
     let old = c.args.numbers.now.items in
     let is : c.added_at-least.result ≡ added_at t old c.args.place = rw c.as_slice.ensures.value at c.added_at-least.ensures in
-    let P : ℕ → Type 0 = λ n. Raises t old (slice_set old c.args.place n) in
-    subst P (sym is) (raised t old c.args.place c.requires.place (omega (arith, c.requires.long, c.requires.place)))
+    rw (← is) at (raised t old c.args.place c.requires.place (omega (arith, c.requires.long, c.requires.place)))
 
 pub returns-clause-less : goal.returns-clause-less
 returns-clause-less c = λ _.

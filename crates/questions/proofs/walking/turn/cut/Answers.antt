@@ -1,21 +1,17 @@
-use Rattle.std.proofs.Common.{◌+◌, ◌-◌, [], ◌∷◌, ◌++◌, length, sym, subst, arith}
-use Rattle.std.proofs.lemmas.List.{length-append}
+use Rattle.std.proofs.Common.{◌+◌, ◌-◌, [], ◌∷◌, ◌++◌, length, arith, length-append, inr, inl}
 use Rattle.fields.specs.numbers.Field.{all_fields}
 use Rattle.std.proofs.lemmas.Result.{on_ok_weaker}
 use Rattle.rules.specs.rule.Actions.{target_of}
-use Rattle.rules.specs.rule.Rules.{Rule}
 use Rattle.table.specs.chains.Table.{chain_at}
-use Rattle.questions.specs.Foreign.{needs_at}
 use Rattle.questions.specs.Scopes.{answered, known_by, table_of, whole_of}
-use Rattle.questions.specs.steps.Straying.{CanFollow}
 use Rattle.questions.specs.steps.Waiting.{rests_of}
 use Rattle.questions.proofs.laws.BoxesLaws.{own_box}
 use Rattle.questions.proofs.laws.BranchLaws.{apart_on, followed_on, met_or_stays, parted_on, split_on, rule_here}
 use Rattle.questions.proofs.laws.ResolvedLaws.{all_left, names_same, there_left}
 use Rattle.questions.specs.declared.walking.task.Pending.{Pending}
 use Rattle.questions.specs.declared.walking.task.Task.{Task}
-use Rattle.questions.specs.steps.Taken.{GetsOn}
-use Rattle.questions.proofs.laws.PartedLaws.{adds_more, answered_on, besides_past, matched_on, parts_on, put_past, boxes_more, boxes_part, cut_then, more_parts, one_part}
+use Rattle.questions.specs.steps.Taken.{GetsOn, IsAnswered}
+use Rattle.questions.proofs.laws.PartedLaws.{adds_more, besides_past, matched_on, parts_on, put_past, boxes_more, boxes_part, cut_then, more_parts, one_part, adds_weaker}
 use Rattle.questions.proofs.laws.PartLaws.{parted_only}
 use Rattle.questions.proofs.laws.LeadLaws.{not_gone_to}
 use Rattle.questions.proofs.walking.turn.cut.Goals as goal
@@ -40,8 +36,7 @@ returns-in-None-clause-moves c =
     let own = table_of s in
     let rule = c.rule-rule.result.now in
     let cut = rw c.in-Parts.is at c.in_ok-cut_by.ensures.cuts in
-    let P : Rule → Type 0 = λ r. CanFollow (needs_at s.needs.now c.args.at.chain c.args.at.passed) c.args.task.scope.answers (target_of r) in
-    let can = subst P (sym (rule_here own c.args.at rule c.requires.passed c.rule-rule.ensures)) (rw c.in-None.is at c.requires.parted) in
+    let can = rw (← rule_here own c.args.at rule c.requires.passed c.rule-rule.ensures) at (rw c.in-None.is at c.requires.parted) in
     on_ok_weaker c.follow.result (λ h a policy.
     let t = answered s a in
     let known = known_by s a in
@@ -108,7 +103,7 @@ returns-in-Some-clause-on c =
     let On : Task → Type 0 = GetsOn whole task.scope rests task.trail.items in
     on_ok_weaker c.part.result (λ h. adds_more On c.args.front.now c.pass_over.new.front c.part.new.front
     (besides_past whole task.scope task.rests.items at task.trail.items c.args.front.now c.pass_over.new.front c.in-Parts.outside.items c.in_ok-pass_over-in-Parts.ensures.on)
-    (answered_on whole task.scope rests task.trail.items c.pass_over.new.front c.part.new.front (h whole.needs (rw c.in-Some.is at c.requires.needed)))) c.part.ensures.on
+    ((adds_weaker (IsAnswered whole.needs task.scope.answers rests task.trail.items) (GetsOn whole task.scope rests task.trail.items) c.pass_over.new.front c.part.new.front (λ next is. inr (inr (inr (inl is))))) (h whole.needs (rw c.in-Some.is at c.requires.needed)))) c.part.ensures.on
 
 pub returns-in_ok-pass_over-in-ByPorts-clause-on : goal.returns-in_ok-pass_over-in-ByPorts-clause-on
 returns-in_ok-pass_over-in-ByPorts-clause-on c =

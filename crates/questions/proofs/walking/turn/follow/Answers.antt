@@ -1,8 +1,5 @@
 use Rattle.questions.proofs.laws.TrailLaws.{last_pushed}
 use Rattle.std.proofs.lemmas.Result.{on_ok_weaker}
-use Rattle.std.proofs.Common.{List, subst}
-use Rattle.table.specs.declared.walk.trail.Step.{Step}
-use Rattle.questions.specs.steps.Taken.{AddsTasks, IsTurned}
 use Rattle.questions.proofs.walking.turn.follow.Goals as goal
 
 pub returns-clause-moves : goal.returns-clause-moves
@@ -11,5 +8,4 @@ returns-clause-moves c =
 
 pub returns-clause-on : goal.returns-clause-on
 returns-clause-on c =
-    let P : List Step → Type 0 = λ trail. AddsTasks (IsTurned c.args.table.now.table.chains c.target.result c.args.task.rests.items c.args.behind trail) c.args.front.now c.turn.new.front in
-    on_ok_weaker c.turn.result (λ h. rw c.target.ensures at (subst P c.in_ok-push.ensures.items h)) c.turn.ensures.on
+    on_ok_weaker c.turn.result (λ h. rw c.target.ensures at (rw c.in_ok-push.ensures.items at h)) c.turn.ensures.on

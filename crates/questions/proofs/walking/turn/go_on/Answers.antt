@@ -1,9 +1,6 @@
-use Rattle.std.proofs.Common.{List, subst}
 use Rattle.std.proofs.lemmas.Result.{on_ok_weaker}
 use Rattle.questions.specs.Scopes.{entries_by}
 use Rattle.questions.proofs.laws.WaitLaws.{pushed_moves}
-use Rattle.questions.specs.declared.walking.task.Pending.{Pending}
-use Rattle.questions.specs.steps.Taken.{AddsTasks, IsPut}
 use Rattle.questions.proofs.walking.turn.go_on.Goals as goal
 
 pub returns-clause-moves : goal.returns-clause-moves
@@ -14,5 +11,4 @@ returns-clause-moves c =
 pub returns-clause-on : goal.returns-clause-on
 returns-clause-on c =
     let task = c.args.task in
-    let P : List Pending → Type 0 = λ rests. AddsTasks (IsPut task.scope rests task.trail.items) c.args.front.now c.add_task.new.self in
-    on_ok_weaker c.add_task.result (λ h. subst P c.in_ok-push.ensures.items h) c.add_task.ensures.on
+    on_ok_weaker c.add_task.result (λ h. rw c.in_ok-push.ensures.items at h) c.add_task.ensures.on

@@ -1,5 +1,4 @@
-use Rattle.std.proofs.Common.{◌⊎◌, ℕ, ◌<◌, get_or, Option}
-use Rattle.std.specs.Prelude.{Any}
+use Rattle.std.proofs.Common.{◌⊎◌, ℕ, ◌<◌, get_or, Option, Any}
 use Rattle.fields.specs.declared.packet.hook.Hook.{Hook}
 use Rattle.table.specs.declared.walk.trail.Step.{Step}
 use Rattle.questions.specs.Ends.{step_of}

@@ -1,5 +1,4 @@
-use Rattle.std.proofs.Common.{rules, ◌≡◌, ◌≢◌, ◌++◌, ℕ, Bool, List, Option, None, ap, arith, refl, subst, sym, ◌∙◌}
-use Rattle.std.specs.Prelude.{filter}
+use Rattle.std.proofs.Common.{rules, ◌≡◌, ◌≢◌, ◌++◌, ℕ, Bool, List, Option, None, ap, arith, refl, subst, sym, ◌∙◌, filter}
 use Rattle.std.proofs.lemmas.Fn.{filter_same}
 use Rattle.std.proofs.lemmas.List.{get_or_past}
 use Rattle.questions.specs.declared.foreign.answers.Answer.{Answer}

@@ -1,5 +1,4 @@
-use Rattle.std.proofs.Common.{List, sym, ◌∙◌, subst}
-use Rattle.std.proofs.lemmas.Bool.{true≢false}
+use Rattle.std.proofs.Common.{List, sym, ◌∙◌, subst, true≢false}
 use Rattle.questions.specs.Foreign.{AreWithoutNeeds}
 use Rattle.questions.specs.declared.foreign.need.Need.{Need}
 use Rattle.questions.proofs.foreign.need.Needs.are_none.Goals as goal

@@ -1,5 +1,4 @@
-use Rattle.std.proofs.Common.{◌≡◌, ◌∙◌, ap, sym, true, false}
-use Rattle.std.specs.Prelude.{◌&&◌}
+use Rattle.std.proofs.Common.{◌≡◌, ◌∙◌, ap, sym, true, false, ◌&&◌}
 use Rattle.rules.specs.rule.Allows.{allows_each}
 use Rattle.rules.specs.rule.Crossing.{cross}
 use Rattle.questions.proofs.laws.AreaLaws.{box_of_rule}

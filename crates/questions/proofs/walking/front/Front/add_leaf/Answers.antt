@@ -7,8 +7,7 @@ use Rattle.questions.proofs.laws.PartedLaws.{leaf_part}
 use Rattle.questions.proofs.walking.front.Front.add_leaf.Goals as goal
 
 pub returns-clause-moves : goal.returns-clause-moves
-returns-clause-moves c =
-    λ t known policy met. leaf_moves t known policy c.args.self.now _ _ refl c.in_ok-push.ensures.items met
+returns-clause-moves c = λ t known policy met. leaf_moves t known policy c.args.self.now _ _ refl c.in_ok-push.ensures.items met
 
 pub returns-clause-asked : goal.returns-clause-asked
 returns-clause-asked c = λ needs given own all.
