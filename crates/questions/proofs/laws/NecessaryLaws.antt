@@ -19,7 +19,7 @@ use Rattle.questions.specs.Scopes.{IsOf, answered, entries_by, known_by, scope_o
 use Rattle.questions.specs.asked.Always.{IsLiveWith}
 use Rattle.questions.specs.asked.Necessary.{AreEnough, AreNecessary, IsNecessary, MayNotSuffice}
 use Rattle.questions.specs.asked.Walks.{AreWalksUnder}
-use Rattle.questions.specs.boxes.Boxes.{IsAtHook, IsIn}
+use Rattle.questions.specs.boxes.Boxes.{IsIn}
 use Rattle.questions.specs.declared.foreign.answers.Answer.{Answer}
 use Rattle.questions.specs.declared.foreign.need.Need.{Need}
 use Rattle.questions.specs.declared.foreign.subject.Subject.{Subject}
@@ -28,12 +28,11 @@ use Rattle.questions.specs.declared.walking.scope.Scope.{Scope}
 use Rattle.questions.specs.declared.walking.task.Leaf.{Leaf}
 use Rattle.questions.specs.steps.Answered.{IsOpen, answers_but, others_than, AreIndexed, answer_in}
 use Rattle.questions.specs.steps.Takers.{IsMissed, IsSurelyOn, needs_of}
-use Rattle.questions.specs.steps.Waiting.{Begins}
+use Rattle.questions.specs.steps.Waiting.{IsFitting}
 use Rattle.questions.proofs.laws.AnswerLaws.{agrees_before, either_is_given}
 use Rattle.questions.proofs.laws.ForeignLaws.{left_sound}
 use Rattle.questions.proofs.laws.TrailLaws.{keeps, on_entries_by, step_by, none_some}
 use Rattle.questions.proofs.laws.ResolvedLaws.{entry_left, length_same}
-use Rattle.questions.proofs.laws.StepLaws.{all_exact}
 
 -- ---- Which answers suffice for a rule to be on a packet's walk, and which of them are necessary.
 
@@ -73,12 +72,11 @@ pub missed_off : (s : Subject) (found : List Leaf) (p : Packet) (step : Step) (a
 missed_off s found p step answers sound rule walks any = missed_by s found p step answers sound rule (λ a. (walks a).exact) any
 
 -- and where one of those is missed that are known so far
-pub missed_soon : (s : Subject) (front : Front) (p : Packet) (step : Step) (start : Scope) → IsSound (table_of s) → IsRule (table_of s) step → IsAtHook p → ((a : Assignment) → Begins (answered s a) (known_by s a) p.hook start front)
+pub missed_soon : (s : Subject) (front : Front) (p : Packet) (step : Step) (start : Scope) → IsSound (table_of s) → IsRule (table_of s) step → ((a : Assignment) → IsFitting (answered s a) (known_by s a) start p front)
     → Any (λ (leaf : Leaf). IsIn leaf.area p × IsMissed (needs_of s.needs.now step) step leaf) front.leaves.items
     → (a : Assignment) × Agrees a start.answers × (Contains (walk (answered s a) p).trail (entry_of (table_of s).chains step) → ⊥)
-missed_soon s front p step start sound rule can begins any =
-    missed_by s front.leaves.items p step start.answers sound rule
-    (λ a k d lt own. let (of, walked) = all_exact (answered s a) (known_by s a) p.hook start front (begins a) p can refl k d lt own in (of.agrees, walked)) any
+missed_soon s front p step start sound rule fits any =
+    missed_by s front.leaves.items p step start.answers sound rule (λ a k d lt own. let (of, walked) = (fits a).leaves k d lt own in (of.agrees, walked)) any
 
 -- ---- a rule that is live by answers
 

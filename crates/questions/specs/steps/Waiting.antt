@@ -12,7 +12,7 @@ use Rattle.table.specs.walk.Cases.{Stage, Under, GoesTo}
 use Rattle.table.specs.walk.Walk.{Rest, Entry, end_verdict, whole}
 use Rattle.questions.specs.boxes.Boxes.{IsAtHook}
 use Rattle.questions.specs.boxes.Cut.{IsAllowedIn, IsInSome}
-use Rattle.questions.specs.Foreign.{Agrees, AreAsked}
+use Rattle.questions.specs.Foreign.{Agrees, AreAsked, Assignment}
 use Rattle.questions.specs.declared.foreign.answers.Answer.{Answer}
 use Rattle.questions.specs.declared.foreign.need.Need.{Need}
 use Rattle.questions.specs.Leaves.{name_at}
@@ -66,6 +66,13 @@ stage_at known chains at task = Under (rest_of chains at ∷ rests_of chains tas
 -- all holds that the last rule of a trail needs
 abbrev pub IsLastMet : Known → List Step → Type 0
 IsLastMet known trail = IfSome (slice_get trail (length trail - 1)) (λ step. IsTrue (is_met known step))
+
+-- a task is as this one, but perhaps with more answers
+pub record IsSettled (task next : Task) : Type 0 where
+  pub area : next.scope.area ≡ task.scope.area
+  pub answers : (a : Assignment) → Agrees a next.scope.answers → Agrees a task.scope.answers
+  pub rests : next.rests ≡ task.rests
+  pub trail : next.trail ≡ task.trail
 
 -- the packet is in a task
 abbrev pub WaitsIn : Table → Known → Packet → Task → Type 0

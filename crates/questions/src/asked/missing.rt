@@ -1,4 +1,4 @@
-//! Walks of a packet that miss a rule.
+//! A walk of a packet that misses a rule.
 ghost use Rattle.std.specs.Prelude.{◌≡◌, false, Any, Contains, IfOk, IsTrue};
 ghost use Rattle.table.specs.walk.Walk.{walk};
 ghost use Rattle.questions.specs.Ends.{IsRule};
@@ -7,6 +7,7 @@ ghost use Rattle.questions.specs.Leaves.{entry_of};
 ghost use Rattle.questions.specs.Scopes.{answered, table_of};
 ghost use Rattle.questions.specs.boxes.Boxes.{IsAtHook, IsIn};
 ghost use Rattle.questions.specs.steps.Takers.{IsMissed, IsSurelyOn, needs_of};
+ghost use Rattle.questions.specs.steps.Waiting.{IsSettled};
 
 use crate::asked::rule::is_on;
 use crate::asked::walks::box_of;
@@ -16,15 +17,16 @@ use crate::boxes::matched::has;
 use crate::foreign::need::{Need, Standing, known_of};
 use crate::foreign::subject::Subject;
 use crate::seeking::before::Approach;
+use crate::seeking::steering::failing;
 use crate::walking::ahead::advanced;
 use crate::walking::engine::{LIMIT, begin, policy_at, step};
 use crate::walking::scope::Scope;
-use crate::walking::task::Leaf;
+use crate::walking::task::{Leaf, Task};
 use fields::Packet;
 use std::alloc::{AllocError, Global};
 use table::Step;
 
-// The steps of the search for such a walk.
+// The steps of such a walk.
 const STEPS: usize = 4096;
 
 // Whether a rule is on the trail of a leaf, and all holds that it needs where the leaf's answers are right.
@@ -52,7 +54,21 @@ fn is_newest_off(subject: &Subject<'_>, found: &[Leaf], packet: &Packet, step: S
     }
 }
 
-// Whether one of the walks of a packet from a scope, which are taken one after another for so many steps, misses the rule.
+// A task whose next rule hangs on a condition, with an answer by which that rule doesn't match.
+fn settled(subject: &Subject<'_>, mut task: Task) -> Result<Task, AllocError>
+    ensures { IfOk result (IsSettled task) }
+{
+    if let Some(at) = task.rests.last() {
+        let needs = subject.needs.at(at.chain, at.passed);
+        if let Standing::Open(condition) = known_of(needs, &task.scope.answers) {
+            let fails = failing(needs, condition);
+            let _is_new = task.scope.answers.give(condition, fails)?;
+        }
+    }
+    Ok(task)
+}
+
+// Whether a walk of a packet from a scope, of so many steps at most, misses the rule: the one on which each rule that hangs on a condition doesn't match.
 fn is_missed_from(
     alloc: Global,
     approach: &Approach<'_, '_, '_>,
@@ -76,7 +92,7 @@ fn is_missed_from(
         if task.trail.len() >= LIMIT {
             return Ok(false);
         }
-        let next = advanced(&subject, &mut candidates, task)?;
+        let next = settled(&subject, advanced(&subject, &mut candidates, task)?)?;
         step(&subject, policy, &mut front, next)?;
         if is_newest_off(&subject, front.leaves.as_slice(), packet, approach.wanted) {
             return Ok(true);
@@ -95,6 +111,5 @@ pub(crate) fn is_off(alloc: Global, approach: &Approach<'_, '_, '_>) -> Result<b
     let answers = approach.answers.copy(alloc)?;
     let whole = Area::at_hook(alloc, approach.packet.hook())?;
     let area = box_of(alloc, &whole, approach.packet)?;
-    let is_off = is_missed_from(alloc, approach, Scope { area, answers })?;
-    Ok(is_off)
+    is_missed_from(alloc, approach, Scope { area, answers })
 }

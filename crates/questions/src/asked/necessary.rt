@@ -72,7 +72,7 @@ pub(crate) fn is_always_on(
     walks_have(alloc, approach, budget)
 }
 
-// Whether answers are known to suffice without one more: they do surely, or a walk misses the rule where that one is turned; else all walks tell.
+// Whether answers are known to suffice without one more: not where a walk misses the rule on which that one is turned.
 fn suffice_without(
     alloc: Global,
     others: &Approach<'_, '_, '_>,
@@ -84,21 +84,16 @@ fn suffice_without(
     ensures yes { IfOk result (λ is. IsTrue is → AreEnough others.now.subject others.now.wanted others.now.packet.now others.now.answers.now) }
     ensures no { IfOk result (λ is. is ≡ false → MayNotSuffice others.now.subject others.now.wanted others.now.packet.now budget others.now.answers.now) }
 {
-    if suffice_surely(alloc, others)? {
-        return Ok(true);
-    }
     let mut turned = others.answers.copy(alloc)?;
     let _is_new = turned.give(answer.condition, !answer.holds)?;
     let missing = Approach {
-        subject: others.subject,
-        packet: others.packet,
         answers: &turned,
-        wanted: others.wanted,
+        ..*others
     };
     if is_off(alloc, &missing)? {
         return Ok(false);
     }
-    walks_have(alloc, others, budget)
+    is_always_on(alloc, others, budget)
 }
 
 // Those of some answers that are necessary: one after another is left out where the others suffice.

@@ -146,9 +146,8 @@ pub fn life_under(
     Ok(Life::Unclear)
 }
 
-/// The same as `life_under`, with few answers. Of more than eight the first half is given, again and again, as long as it is seen to suffice. Of up to eight each
-/// is necessary: without it the rule may be off the packet's walk, or the walks aren't known to end with `budget` steps. That costs up to eight
-/// more searches for a walk of the packet that misses the rule.
+/// The same as `life_under`, with few answers: of up to eight each is necessary, since without it the rule may be off the packet's walk, or the walks
+/// aren't known to end with `budget` steps. Of more some may be needless. For each of the eight that costs one more walk or, where this has the rule, all walks.
 ///
 /// # Errors
 ///

@@ -64,10 +64,7 @@ pub(crate) fn rows_at<'s>(
 
 // The number of the chain at a place, if there is one.
 fn number_at(numbers: &[usize], place: usize) -> usize {
-    match numbers.get(place) {
-        Some(number) => *number,
-        None => 0,
-    }
+    numbers.get(place).copied().unwrap_or(0)
 }
 
 // Sets it.
@@ -90,10 +87,7 @@ impl<'s> Before<'s> {
 
     // Whether it may get a verdict once it is in a chain.
     pub(crate) fn ends_in(&self, place: usize) -> bool {
-        match self.ends.get(place) {
-            Some(ends) => *ends,
-            None => true,
-        }
+        self.ends.get(place).copied().unwrap_or(true)
     }
 
     // What a rule makes of it that leads from one chain to another, from which it comes back after a jump.

@@ -53,13 +53,10 @@ struct Walker<'s, 'p> {
 }
 
 // What an open need of a condition has to be answered, so that it fails.
-fn failing(needs: &[Need], condition: usize) -> bool {
-    for need in needs {
-        if need.condition == condition {
-            return need.inverted;
-        }
-    }
-    false
+pub(crate) fn failing(needs: &[Need], condition: usize) -> bool {
+    needs
+        .iter()
+        .any(|need| need.condition == condition && need.inverted)
 }
 
 impl<'s, 'p> Walker<'s, 'p> {
