@@ -54,8 +54,8 @@ fn mark_rule<R: Clock, E: Print + IsTerminal>(
     }
 }
 
-/// Marks the rules that a packet matches under some answers. One of which that isn't known is marked as unclear, and that is told. A rule that is known
-/// to match another packet whichever answers are right isn't asked of again.
+/// Marks the rules that a packet matches under some answers. One of which it isn't known whether it does is marked as unclear, and that is told. A rule
+/// isn't asked of again that is known to match another packet where all holds that the rule needs itself.
 ///
 /// # Errors
 ///
@@ -73,7 +73,9 @@ pub fn mark_packet<R: Clock, E: Print + IsTerminal>(
     }
     let mut clear = true;
     for at in possible_rules(asking.alloc(), dump, packet)? {
-        if !marks.is_always_met(at) && !mark_rule(asking, dump, open, packet, at, marks)? {
+        if !marks.is_met_by(at, dump.needs_of(at))
+            && !mark_rule(asking, dump, open, packet, at, marks)?
+        {
             clear = false;
         }
     }

@@ -10,13 +10,14 @@ use table::{Step, Table};
 enum Mark {
     // None of them matches it.
     Unmet,
-    // None is known to match it, and of one that isn't known.
+    // None is known to match it, and of one it isn't known whether it does.
     Unclear,
     // One matches it where these answers are right; there are none where it does whichever are.
     Met(Vec<Need>),
 }
 
-/// A mark for each rule of a table: whether packets that were given match it; and the lines of the packets of which that isn't known of a rule.
+/// For each rule of a table a mark: whether it matches packets that were given. And the lines of those packets of which it isn't known which rules they
+/// match.
 #[derive(Drop)]
 pub struct Marks {
     // How many rules stand before each chain.
@@ -73,15 +74,15 @@ impl Marks {
         }
     }
 
-    /// Whether no packet is known to match a rule, and of one that isn't known.
+    /// Whether no packet is known to match a rule, and of one it isn't known whether it does.
     pub(crate) fn is_unclear(&self, at: Step) -> bool {
         matches!(self.mark_of(at), Some(Mark::Unclear))
     }
 
-    /// Whether a rule is known to match a packet whichever answers are right.
-    pub(crate) fn is_always_met(&self, at: Step) -> bool {
+    /// Whether a rule is known to match a packet where all holds that it needs itself, whatever else does: no packet asks less.
+    pub(crate) fn is_met_by(&self, at: Step, own: &[Need]) -> bool {
         match self.given(at) {
-            Some(given) => given.is_empty(),
+            Some(given) => given.iter().all(|answer| own.contains(answer)),
             None => false,
         }
     }
@@ -113,12 +114,12 @@ impl Marks {
         }
     }
 
-    /// The lines of the packets of which it isn't known of a rule, from 1, in their order; they are lent.
+    /// The lines of the packets of which it isn't known which rules they match, from 1, in their order; they are lent.
     pub fn unclear_lines(&self) -> &[u64] {
         self.unclear_lines.as_slice()
     }
 
-    /// Notes the line of a packet of which it isn't known of a rule.
+    /// Notes the line of such a packet.
     ///
     /// # Errors
     ///
