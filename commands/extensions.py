@@ -9,30 +9,31 @@ TABLE = pathlib.Path(__file__).resolve().with_name("options.table")
 # `place` is the sign before an option, and `values` are the kinds of its values.
 Option = collections.namedtuple("Option", "names values place")
 # `sets` are the names of the matches that ask what a target sets; `notes` are the words after the name of a match, `protocols` those of
-# `-p` that begin it, `always` are the first names of its options that always hold, and `unopposed` of those whose `!` isn't their opposite.
-Extension = collections.namedtuple("Extension", "kind name options sets notes protocols always unopposed", defaults=((), (), (), ()))
+# `-p` that begin it, `always` are the first names of its options that always hold, `unopposed` of those whose `!` isn't their opposite, `things` of
+# those whose first value names what is asked or set, and `counted` of those that ask what packets before had.
+Extension = collections.namedtuple("Extension", "kind name options sets notes protocols always unopposed things counted", defaults=((),) * 6)
 
 
 def extension_of(row):
     kind, name, *words = row.split()
-    options, sets, notes, protocols, always, unopposed = [], [], [], (), [], []
+    options, sets, notes, protocols, firsts = [], [], [], (), collections.defaultdict(list)
     for word in words:
         sign, rest = word[0], word[1:].encode()
         if sign == ">":
             sets.append(rest)
         elif sign == "@":
             protocols = tuple(rest.split(b","))
-        elif sign in "=+*~.^" and rest[:1] == b"-":
+        elif sign in "=+*~&%.<^" and rest[:1] == b"-":
             names = tuple(rest.split(b","))
-            options.append((names, [], "+" if sign in "*~" else sign))
-            always += [names[0]] if sign == "*" else []
-            unopposed += [names[0]] if sign == "~" else []
+            options.append((names, [], "+" if sign in "*~&%" else "." if sign == "<" else sign))
+            firsts[sign].append(names[0])
         elif options:
             options[-1][1].append(word)
         else:
             notes.append(word)
     options = tuple(Option(names, tuple(values), place) for names, values, place in options)
-    return Extension(kind, name.encode(), options, tuple(sets), tuple(notes), protocols, tuple(always), tuple(unopposed))
+    lists = (sets, notes, protocols, firsts["*"], firsts["~"] + firsts["%"], firsts["&"] + firsts["<"], firsts["%"])
+    return Extension(kind, name.encode(), options, *map(tuple, lists))
 
 
 def rows(path):
@@ -57,6 +58,11 @@ PROTOCOLS = {6: b"tcp", 17: b"udp", 33: b"dccp", 132: b"sctp", 136: b"udplite"}
 OTHER_NAMES = (b"--fragments", b"--ttl")
 # The matches that the program knows, and which may stand without an option.
 WITHOUT_OPTION = tuple(row.name for row in MATCHES.values() if "alone" in row.notes)
+
+
+def set_by(target):
+    """The names of the matches that ask what a target sets."""
+    return (*target.sets, *(match.name for match in MATCHES.values() if match.things and target.things))
 
 
 def is_known(extension):

@@ -158,7 +158,7 @@ class Fitting:
         for number, rule in self.rules.items():
             if rule and rule.whole:
                 rules.append(rule)
-                for name in rule.target.extension.sets if rule.target else ():
+                for name in extensions.set_by(rule.target.extension) if rule.target else ():
                     self.sets.setdefault(name, (number, rule.target.extension.name))
             elif self.lines[number][:1] != b":":
                 loud.update(re.split(rb'[ \t"]+', self.lines[number]))

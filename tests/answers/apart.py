@@ -54,13 +54,20 @@ class Conditions:
 
     def number(self, condition, chain, rule, counts):
         text = b" ".join(map(quoted, [condition.name, *condition.words]))
-        placed = condition.lasting == "place" or condition.lasting == "set" and condition.name in self.sets
+        placed = condition.lasting == "place" or condition.lasting == "set" and condition.asks in self.sets
         key = (text, chain, counts[text]) if placed else text
         counts[text] += placed
         if key not in self.numbers:
             self.numbers[key] = len(self.numbers)
             self.lines.append(b"# %d %s: %s" % (self.numbers[key], condition.name, text) + (b" at %s %d" % (chain, rule) if placed else b""))
         return self.numbers[key]
+
+
+def written(lines):
+    """What targets of lines set, but where the next line of the chain ends the walk of each packet."""
+    for at, (chain, line) in enumerate(lines):
+        behind = next((other for name, other in lines[at + 1 :] if name == chain), None)
+        yield from () if behind and behind.ends else line.sets
 
 
 def printed(lines, conditions):
@@ -76,7 +83,7 @@ def printed(lines, conditions):
 
 def due(*dumps):
     """What it is to print for one dump of lines, or two."""
-    conditions = Conditions({name for lines in dumps for _, line in lines if line.target for name in line.target.sets})
+    conditions = Conditions({name for lines in dumps for name in written(lines)})
     texts = [list(printed(lines, conditions)) for lines in dumps]
     return [*texts[0], *(line for text in texts[1:] for line in (b"# next", *text)), *conditions.lines]
 

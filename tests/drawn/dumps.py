@@ -5,13 +5,13 @@ import itertools
 
 from commands import extensions
 
-# A condition: the name of its match, its words after the name, whether it is inverted, and how long an answer lasts.
-Condition = collections.namedtuple("Condition", "name words inverted lasting")
+# A condition: the name of its match, what it asks, its words after the name, whether it is inverted, and how long an answer lasts.
+Condition = collections.namedtuple("Condition", "name asks words inverted lasting")
 # A part: whose its option is, the option, the name by which it is written, its values, whether `!` stands before it, and the words that are
 # due where the program reads it.
 Part = collections.namedtuple("Part", "owner option name values inverted own")
-# A line: its words, those that are due, its conditions, and the target's row.
-Line = collections.namedtuple("Line", "words own conditions target")
+# A line: its words, those that are due, its conditions, what its target sets, and whether it ends the walk of each packet.
+Line = collections.namedtuple("Line", "words own conditions sets ends")
 
 # Values that stand anywhere, some of them like options.
 WORDS = (b"7", b"eth0", b"3/min", b"LOCAL", b"a b", b"-m", b"--limit", b"!", b"", b'say "x"',
@@ -87,7 +87,16 @@ class Writer:
         words = [word for part in self.parts for word in [b"!"] * part.inverted + [part.name, *part.values]]
         conditions = [found for found in (condition_at(at, self.parts) for at in range(len(self.parts))) if found]
         named = [part.values[0] for part in self.parts if part.option.names[0] == b"-j"]
-        return Line(words, own_words(self.parts), conditions, extensions.TARGETS.get(named[-1]) if named else None)
+        target = next(filter(None, map(extensions.TARGETS.get, reversed(named))), None)
+        sets = {*(target.sets if target else ()), *things_of(part for part in self.parts if part.option.place == ".")}
+        bare = all(part.option.names[0] == b"-j" or part.owner is target for part in self.parts)
+        ends = target is not None and target.kind == "ends" and target.name != b"RETURN" and bare
+        return Line(words, own_words(self.parts), conditions, sets, ends)
+
+
+def things_of(parts):
+    """The things that parts name which are asked or set."""
+    return [(part.values[0],) for part in parts if part.owner and part.option.names[0] in part.owner.things]
 
 
 def parts_of(match, at, parts):
@@ -134,14 +143,16 @@ def condition_of(match, parts):
         return None
     words = [word for part in parts if part.option.place != "^"
              for word in [b"!"] * (part.inverted and not (opposed and part in asking)) + [part.name, *part.values]]
-    return Condition(match.name, words, inverted, match.notes[0] if not extensions.is_known(match) else "place")
+    asks = [*things_of(parts), match.name][0]
+    placed = extensions.is_known(match) or any(part.option.names[0] in match.counted for part in parts)
+    return Condition(match.name, asks, words, inverted, "place" if placed else match.notes[0])
 
 
 def condition_at(at, parts):
     """The condition of the match that begins at a place, by `-m` or by the protocol, or of a protocol that isn't known."""
     part = parts[at]
     if part.option.values == ("protocol",) and part.owner is extensions.RULE and part.own is None:
-        return Condition(b"protocol", part.values, part.inverted, "text")
+        return Condition(b"protocol", b"protocol", part.values, part.inverted, "text")
     name = found_begin(part)
     if part.owner is not None and part.owner.kind == "match":
         before = [each for each in parts[:at] if each.owner is part.owner or found_begin(each) == part.owner.name]

@@ -29,6 +29,10 @@ ROLES = {"+": "asks", ".": "says", "^": "turns"}
 def role(owner, option):
     if option.names[0] in owner.always:
         return "holds"
+    if option.names[0] in owner.things:
+        return "sets" if option.place == "." else "asks-of"
+    if option.names[0] in owner.counted:
+        return "counts"
     if option.names[0] in owner.unopposed:
         return "unopposed"
     if option.place == "=":

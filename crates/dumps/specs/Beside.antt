@@ -4,7 +4,7 @@ use Rattle.std.specs.List.{filter_map, list_any}
 use Rattle.std.specs.Option.{option_and_then}
 use Rattle.fields.specs.text.Line.{AreOneLine}
 use Rattle.fields.specs.text.Words.{words_of}
-use Rattle.dumps.specs.Foreign.{Needed, ReadRule, needs_some}
+use Rattle.dumps.specs.Foreign.{ReadRule, needs_some}
 use Rattle.dumps.specs.Options.{Known, Table}
 use Rattle.dumps.specs.Own.{HasNumbersInOneLine}
 use Rattle.dumps.specs.Reading.{Read, Filter, is_too_long, add_line, IsLineRead}
@@ -26,8 +26,8 @@ pub record GivesOneLine (table : Table) : Type 0 where
 -- A line becomes one line of the text. That puts a rule last in a chain, and one rule of the same chain is added, with what it needs; or it
 -- is the line itself, which puts none there, and no rule is added. A line that is too long puts none there: a restore refuses it.
 pub data IsBeside (line : List ℕ) (old new : Read) : Type 0 where
-  Rule : (given chain : List ℕ) (needs : List Needed) → new.text ≡ add_line old.text given → chain_of given ≡ Some chain
-      → new.rules ≡ old.rules ++ record { chain = chain; needs = needs } ∷ [] → IsBeside line old new
+  Rule : (given : List ℕ) (rule : ReadRule) → new.text ≡ add_line old.text given → chain_of given ≡ Some rule.chain → new.rules ≡ old.rules ++ rule ∷ []
+      → IsBeside line old new
   NoRule : new.text ≡ add_line old.text line → (is_too_long line ≡ true) ⊎ (chain_of line ≡ None) → new.rules ≡ old.rules → IsBeside line old new
 
 -- so a line of the section `filter` is read, where no word that the table gives has a newline
@@ -67,8 +67,7 @@ MovesNone rules words = (rule_line words ≡ None) × (moving rules (other_line 
 -- A line of a text puts a rule last in a chain, and one was read for that; or it is no such line, and moves no rule. A line that is too
 -- long does neither: a restore refuses it.
 pub data IsStill (old new : List ReadRule) (line : List ℕ) : Type 0 where
-  Puts : (chain : List ℕ) (needs : List Needed) → chain_of line ≡ Some chain → new ≡ old ++ record { chain = chain; needs = needs } ∷ []
-      → IsStill old new line
+  Puts : (rule : ReadRule) → chain_of line ≡ Some rule.chain → new ≡ old ++ rule ∷ [] → IsStill old new line
   Keeps : new ≡ old → (is_too_long line ≡ true) ⊎ ((words : List (List ℕ)) → words_of line ≡ Some words → MovesNone old words) → IsStill old new line
 
 -- the same of lines, one after another

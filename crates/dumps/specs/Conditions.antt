@@ -10,22 +10,23 @@ use Rattle.dumps.specs.declared.options.row.Kind.TheVariants as kind
 use Rattle.dumps.specs.declared.options.row.Lasting.{Lasting}
 use Rattle.dumps.specs.declared.options.row.Lasting.TheVariants as lasting
 
--- a condition: the name of its match, or `protocol`; of which uses it is one; the words after the name; and whether the rule needs
--- that it doesn't hold
+-- a condition: the name of its match, or `protocol`; what it asks, which targets may set; of which uses it is one; the words after the name; and whether
+-- the rule needs that it doesn't hold
 pub record Condition : Type 0 where
   pub name : List ℕ
+  pub asks : List ℕ
   pub lasting : Lasting
   pub words : List (List ℕ)
   pub inverted : Bool
 
 -- the part asks by itself: its option isn't one that only says more of another, or turns it
 abbrev pub asks : Part → Bool
-asks part = not (is_role role.Says part.row.role || is_role role.Turns part.row.role)
+asks part = not (is_role role.Says part.row.role || (is_role role.Turns part.row.role || is_role role.Sets part.row.role))
 
 -- A `!` before the part asks the opposite of what it asks without. Of a port that the program doesn't read, and of a type of ICMP, it doesn't:
 -- a later fragment has none, so that neither holds (iptables-extensions(8), multiport, tcp, icmp).
 abbrev pub is_opposed : Part → Bool
-is_opposed part = is_role role.Asks part.row.role || is_role role.Holds part.row.role
+is_opposed part = is_role role.Asks part.row.role || (is_role role.AsksOf part.row.role || is_role role.Holds part.row.role)
 
 -- the part turns what its match asks
 abbrev pub turns : Part → Bool
@@ -55,10 +56,33 @@ abbrev pub text_words : Bool → Part → List (List ℕ)
 text_words single part =
     if turns part then [] else spelled_words (part.inverted && not (single && is_opposed part)) part.option part.values
 
+-- a thing by its name: a blank (32) stands before it, with which no name of a match begins
+abbrev pub named_thing : List ℕ → List ℕ
+named_thing name = 32 ∷ name
+
+-- what some parts ask of a match: the thing that the first of them names which names one, or else what the match asks at all
+abbrev pub asked_thing : List ℕ → List Part → List ℕ
+asked_thing name [] = name
+asked_thing name (part ∷ parts) = if is_role role.AsksOf part.row.role then named_thing (value_of part) else asked_thing name parts
+
+-- the part asks how often packets before had its match
+abbrev pub counts : Part → Bool
+counts part = is_role role.Counts part.row.role
+
+-- of which uses a condition is one: what packets before had is one of its place
+abbrev pub lasting_by : List Part → Lasting → Lasting
+lasting_by parts lasts = if list_any counts parts then lasting.Place else lasts
+
 -- the condition that some parts ask of a match
 abbrev pub condition_of : List ℕ → Lasting → List Part → Condition
-condition_of name lasting parts =
-    record { name = name; lasting = lasting; words = flat_map (text_words (is_single parts)) parts; inverted = is_inverted parts }
+condition_of name lasts parts =
+    record {
+      name = name;
+      asks = asked_thing name parts;
+      lasting = lasting_by parts lasts;
+      words = flat_map (text_words (is_single parts)) parts;
+      inverted = is_inverted parts;
+    }
 
 -- their only part that asks always holds
 abbrev pub always_hold : List Part → Bool
@@ -107,7 +131,7 @@ implied_by table before name parts = if length name == 0 || is_there name before
 -- the condition that a protocol is
 abbrev pub protocol_condition : Part → Condition
 protocol_condition part =
-    record { name = codes "protocol"; lasting = lasting.Text; words = value_of part ∷ []; inverted = part.inverted }
+    record { name = codes "protocol"; asks = codes "protocol"; lasting = lasting.Text; words = value_of part ∷ []; inverted = part.inverted }
 
 -- what the match asks that the first of some parts begins, after the parts before it
 abbrev pub asked_first : Table → List Part → List Part → List Condition

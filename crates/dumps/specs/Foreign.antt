@@ -1,20 +1,22 @@
 -- What the rules of a dump need beyond what the program reads.
-use Rattle.std.specs.Prelude.{ℕ, Bool, not, nat_lt, List, [], ◌∷◌, ◌++◌, length, map, filter, flat_map, if◌then◌else◌, Option, Some, None, is_some}
+use Rattle.std.specs.Prelude.{ℕ, Bool, false, not, ◌&&◌, ◌||◌, codes, nat_lt, List, [], ◌∷◌, ◌++◌, length, map, filter, flat_map, if◌then◌else◌, Option, Some, None, is_some}
 use Rattle.std.specs.Global.{Vec}
-use Rattle.std.specs.List.{list_any}
+use Rattle.std.specs.List.{list_all, list_any}
 use Rattle.std.specs.Str.{bytes_eq}
-use Rattle.dumps.specs.Options.{Extension, Known, Table, known_of}
-use Rattle.dumps.specs.Parts.{Part, target_of}
-use Rattle.dumps.specs.Conditions.{Condition}
-use Rattle.dumps.specs.Own.{line_of}
+use Rattle.dumps.specs.Options.{Extension, Known, Table, is_role, is_ending, known_of}
+use Rattle.dumps.specs.Parts.{Part, target_of, value_of}
+use Rattle.dumps.specs.Conditions.{Condition, named_thing}
+use Rattle.dumps.specs.Own.{is_of, line_of}
 use Rattle.dumps.specs.declared.options.row.Lasting.{Lasting}
+use Rattle.dumps.specs.declared.options.row.Role.TheVariants as role
 use Rattle.dumps.specs.declared.reading.foreign.NeededText.{NeededText}
 use Rattle.dumps.specs.declared.reading.foreign.ForeignRule.{ForeignRule}
 use Rattle.dumps.specs.declared.reading.foreign.Foreign.{Foreign}
 
--- a condition by its text, of which uses it is one, and whether the rule needs that it doesn't hold
+-- a condition by its text, what it asks, of which uses it is one, and whether the rule needs that it doesn't hold
 pub record Needed : Type 0 where
   pub name : List ℕ
+  pub asks : List ℕ
   pub text : List ℕ
   pub lasting : Lasting
   pub inverted : Bool
@@ -24,6 +26,7 @@ abbrev pub needed : Condition → Needed
 needed condition =
     record {
       name = condition.name;
+      asks = condition.asks;
       text = condition.name ++ line_of condition.words;
       lasting = condition.lasting;
       inverted = condition.inverted;
@@ -50,10 +53,12 @@ is_unknown known need = not (is_some (known_of known need.text))
 abbrev pub unknown_needs : List Known → List Needed → List Needed
 unknown_needs known needs = filter (is_unknown known) needs
 
--- a rule by its chain, and what it needs
+-- a rule by its chain, what it needs, what its target sets, and whether it ends the walk of each packet
 pub record ReadRule : Type 0 where
   pub chain : List ℕ
   pub needs : List Needed
+  pub sets : List (List ℕ)
+  pub ends : Bool
 
 -- the rule is in a chain
 abbrev pub is_in : List ℕ → ReadRule → Bool
@@ -76,43 +81,64 @@ abbrev pub sets_of : Option Extension → List (List ℕ)
 sets_of None = []
 sets_of (Some row) = row.sets
 
--- the matches that ask what the target of a line sets
+-- the things that the parts of a line name which its target sets
+abbrev pub set_things : List Part → List (List ℕ)
+set_things [] = []
+set_things (part ∷ parts) = if is_role role.Sets part.row.role then named_thing (value_of part) ∷ set_things parts else set_things parts
+
+-- what the target of a line sets: what some matches ask, and things by their names
 abbrev pub set_by : Table → List Part → List (List ℕ)
-set_by table parts = sets_of (target_of table parts)
+set_by table parts = sets_of (target_of table parts) ++ set_things parts
+
+-- the part names a target, or is an option of this one
+abbrev pub is_of_target : List ℕ → Part → Bool
+is_of_target name part = is_role role.Target part.row.role || is_of name part
+
+-- the parts of a line are those of its target, which gives each packet a verdict (iptables(8), TARGETS)
+abbrev pub ends_by : List Part → Option Extension → Bool
+ends_by parts None = false
+ends_by parts (Some row) = is_ending row.kind && (not (bytes_eq row.name (codes "RETURN")) && list_all (is_of_target row.name) parts)
+
+-- the rule ends the walk of each packet
+abbrev pub ends_each : Table → List Part → Bool
+ends_each table parts = ends_by parts (target_of table parts)
+
+-- the first of some rules that is in a chain ends the walk of each packet
+abbrev pub is_ended : List ℕ → List ReadRule → Bool
+is_ended chain [] = false
+is_ended chain (rule ∷ rules) = if is_in chain rule then rule.ends else is_ended chain rules
+
+-- What targets of some rules set while a packet walks: the next rule of the chain doesn't end its walk. What is set just before it ends, later packets
+-- alone meet.
+abbrev pub written : List ReadRule → List (List ℕ)
+written [] = []
+written (rule ∷ rules) = (if is_ended rule.chain rules then [] else rule.sets) ++ written rules
 
 -- the name is among some
 abbrev pub is_named : List (List ℕ) → List ℕ → Bool
 is_named names name = list_any (bytes_eq name) names
 
--- some names, and one more unless it is among them
-abbrev pub with_name : List (List ℕ) → List ℕ → List (List ℕ)
-with_name names name = if is_named names name then names else names ++ name ∷ []
-
--- some names, and those of others that aren't among them
-abbrev pub with_names : List (List ℕ) → List (List ℕ) → List (List ℕ)
-with_names names [] = names
-with_names names (name ∷ more) = with_names (with_name names name) more
-
 -- How the code's values stand for these.
 abbrev pub needed_in : NeededText → Needed
-needed_in need = record { name = need.name.items; text = need.text.items; lasting = need.lasting; inverted = need.inverted }
+needed_in need =
+    record { name = need.name.items; asks = need.asks.items; text = need.text.items; lasting = need.lasting; inverted = need.inverted }
 
 -- the needs of a rule
 abbrev pub needs_in : List NeededText → List Needed
 needs_in needs = map needed_in needs
 
+-- names that are kept
+abbrev pub kept_names : List (Vec ℕ) → List (List ℕ)
+kept_names names = map (λ (name : Vec ℕ). name.items) names
+
 -- a rule, by the code's value
 abbrev pub rule_in : ForeignRule → ReadRule
-rule_in rule = record { chain = rule.chain.items; needs = needs_in rule.needs.items }
+rule_in rule = record { chain = rule.chain.items; needs = needs_in rule.needs.items; sets = kept_names rule.sets.items; ends = rule.ends }
 
 -- the rules of a dump, in the order of its lines
 abbrev pub rules_in : Foreign → List ReadRule
 rules_in foreign = map rule_in foreign.rules.items
 
--- names that are kept
-abbrev pub kept_names : List (Vec ℕ) → List (List ℕ)
-kept_names names = map (λ (name : Vec ℕ). name.items) names
-
--- the matches that ask what a target of the rules sets
+-- what targets of the rules set while a packet walks
 abbrev pub sets_in : Foreign → List (List ℕ)
-sets_in foreign = kept_names foreign.set.items
+sets_in foreign = written (rules_in foreign)

@@ -1,8 +1,9 @@
 -- The conditions of the rules of one dump or more, by numbers.
-use Rattle.std.specs.Prelude.{◌≡◌, ℕ, suc, ◌==◌, Bool, true, false, ◌&&◌, List, [], ◌∷◌, ◌++◌, map, filter, count_by, Option, Some, None, option_map, if◌then◌else◌, ◌↔◌}
+use Rattle.std.specs.Prelude.{◌≡◌, ℕ, suc, ◌==◌, Bool, true, false, ◌&&◌, List, [], ◌∷◌, ◌++◌, map, filter, count_by, Option, Some, None, is_some, not, option_map, if◌then◌else◌, ◌↔◌}
 use Rattle.std.specs.List.{list_any, slice_get, flat_map, IsDistinct, All}
 use Rattle.std.specs.Str.{bytes_eq}
 use Rattle.dumps.specs.Foreign.{Needed, ReadRule, is_in, is_named}
+use Rattle.dumps.specs.SectionLines.{begins_with}
 use Rattle.dumps.specs.declared.options.row.Lasting.{Lasting}
 use Rattle.dumps.specs.declared.options.row.Lasting.TheVariants as lasting
 
@@ -13,13 +14,14 @@ pub record Place : Type 0 where
   pub rule : ℕ
   pub count : ℕ
 
--- a condition as it is asked: the name of its match, its text, and where, if it is one of a place
+-- a condition as it is asked: the name of its match, what it asks, its text, and where, if it is one of a place
 pub record Asked : Type 0 where
   pub name : List ℕ
+  pub asks : List ℕ
   pub text : List ℕ
   pub place : Option Place
 
--- the matches that ask what targets set, and the conditions in the order of their numbers, each as it was asked first
+-- what targets set while a packet walks, and the conditions in the order of their numbers, each as it was asked first
 pub record Numbers : Type 0 where
   pub sets : List (List ℕ)
   pub all : List Asked
@@ -81,7 +83,7 @@ lasts_at_place set lasting.Set = set
 
 -- the need is of a condition of a place
 abbrev pub is_of_place : List (List ℕ) → Needed → Bool
-is_of_place sets need = lasts_at_place (is_named sets need.name) need.lasting
+is_of_place sets need = lasts_at_place (is_named sets need.asks) need.lasting
 
 -- how many of some needs are of a condition of a place and have this text
 abbrev pub count_of : List (List ℕ) → List ℕ → List Needed → ℕ
@@ -94,7 +96,7 @@ place_of sets chain rule before need =
 
 -- the condition of a need there
 abbrev pub asked : List (List ℕ) → List ℕ → ℕ → List Needed → Needed → Asked
-asked sets chain rule before need = record { name = need.name; text = need.text; place = place_of sets chain rule before need }
+asked sets chain rule before need = record { name = need.name; asks = need.asks; text = need.text; place = place_of sets chain rule before need }
 
 -- those of the needs of a rule
 abbrev pub asked_by_rule : List (List ℕ) → List ℕ → ℕ → List Needed → List Needed → List Asked
@@ -174,6 +176,13 @@ place_at (Some one) = one.place
 abbrev pub rule_of : Place → List ℕ × ℕ
 rule_of place = (place.chain, place.rule)
 
--- a target sets what some condition asks
-abbrev pub some_set : Numbers → Bool
-some_set numbers = list_any (λ (one : Asked). is_named numbers.sets one.name) numbers.all
+-- a condition of a thing, which is told by its name (a blank, 32, stands before it), and not of a place: all rules that ask it of one text have one
+-- answer as long as nothing changes the thing
+abbrev pub is_of_thing : Option Asked → Bool
+is_of_thing None = false
+is_of_thing (Some one) = begins_with 32 one.asks && not (is_some one.place)
+
+-- a target sets, while a packet walks, what a condition asks
+abbrev pub is_set : List (List ℕ) → Option Asked → Bool
+is_set sets None = false
+is_set sets (Some one) = is_named sets one.asks

@@ -74,6 +74,15 @@ is_deciding kind.Logs = false
 is_deciding kind.Passes = false
 is_deciding kind.Decides = true
 
+-- a target that the program reads and that may end the walk
+abbrev pub is_ending : Kind → Bool
+is_ending (kind.Known alone) = false
+is_ending (kind.Foreign lasting) = false
+is_ending kind.Ends = true
+is_ending kind.Logs = false
+is_ending kind.Passes = false
+is_ending kind.Decides = false
+
 -- the extension is there and its kind passes the test
 abbrev pub has_kind : (Kind → Bool) → Option Extension → Bool
 has_kind test None = false
@@ -104,6 +113,9 @@ role_number role.Unopposed = 7
 role_number role.Holds = 8
 role_number role.Says = 9
 role_number role.Turns = 10
+role_number role.AsksOf = 11
+role_number role.Counts = 12
+role_number role.Sets = 13
 
 -- the second role is the first
 abbrev pub is_role : Role → Role → Bool

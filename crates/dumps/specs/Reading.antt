@@ -9,7 +9,7 @@ use Rattle.dumps.specs.Parts.{Part, IsTakenApart, IsRefused}
 use Rattle.dumps.specs.Parts as parts
 use Rattle.dumps.specs.Own.{own_words, spelled, line_of}
 use Rattle.dumps.specs.Conditions.{conditions}
-use Rattle.dumps.specs.Foreign.{Needed, ReadRule, needed, needs_some, known_words, unknown_needs, set_by, with_names}
+use Rattle.dumps.specs.Foreign.{Needed, ReadRule, needed, needs_some, known_words, unknown_needs, ends_each, set_by}
 use Rattle.dumps.specs.declared.options.row.Kind.{Kind}
 use Rattle.dumps.specs.declared.options.row.Kind.TheVariants as kind
 pub use Rattle.dumps.specs.declared.reading.fault.Refusal.{Refusal}
@@ -19,18 +19,17 @@ use Rattle.std.specs.Bool.{MatchBool}
 pub use Rattle.dumps.specs.declared.reading.dump.Section.{Section}
 pub use Rattle.dumps.specs.declared.reading.dump.Section.TheVariants.{Between, Other, Filter}
 
--- what was read of a dump: where the next line stands; the text so far; of the section `filter` the rules, the names of the matches
--- that ask what a target of these sets, and the word of the first line that may have moved rules
+-- what was read of a dump: where the next line stands; the text so far; of the section `filter` the rules, and the word of the first line that may
+-- have moved rules
 pub record Read : Type 0 where
   pub section : Section
   pub text : List ℕ
   pub rules : List ReadRule
-  pub sets : List (List ℕ)
   pub moved : Option (List ℕ)
 
 -- no line so far
 abbrev pub nothing_read : Read
-nothing_read = record { section = Between; text = []; rules = []; sets = []; moved = None }
+nothing_read = record { section = Between; text = []; rules = []; moved = None }
 
 -- the line has more bytes than a restore takes
 abbrev pub is_too_long : List ℕ → Bool
@@ -42,17 +41,17 @@ add_line text line = text ++ (line ++ 10 ∷ [])
 
 -- the line stays as it stands
 abbrev pub kept : List ℕ → Read → Read
-kept line read = record { section = read.section; text = add_line read.text line; rules = read.rules; sets = read.sets; moved = read.moved }
+kept line read = record { section = read.section; text = add_line read.text line; rules = read.rules; moved = read.moved }
 
 -- the section has ended
 abbrev pub closed : Read → Read
-closed read = record { section = Between; text = read.text; rules = read.rules; sets = read.sets; moved = read.moved }
+closed read = record { section = Between; text = read.text; rules = read.rules; moved = read.moved }
 
--- a section of a table is opened: with `*filter` the rules begin anew, and what their targets set
+-- a section of a table is opened: with `*filter` the rules begin anew
 abbrev pub opened : List ℕ → Read → Read
 opened word read =
-    if bytes_eq word (codes "*filter") then record { section = Filter; text = read.text; rules = []; sets = []; moved = None }
-    else record { section = Other; text = read.text; rules = read.rules; sets = read.sets; moved = read.moved }
+    if bytes_eq word (codes "*filter") then record { section = Filter; text = read.text; rules = []; moved = None }
+    else record { section = Other; text = read.text; rules = read.rules; moved = read.moved }
 
 -- between sections a line whose only word begins with `*` (42) opens one
 abbrev pub opened_by : List (List ℕ) → Read → Read
@@ -83,25 +82,30 @@ given_line table line parts = own_text line (own_words table parts ++ known_word
 
 -- a rule, with what it needs beyond that
 abbrev pub read_rule : Table → RuleLine → List Part → ReadRule
-read_rule table line parts = record { chain = line.chain; needs = unknown_needs table.known (needs_of table parts) }
+read_rule table line parts =
+    record {
+      chain = line.chain;
+      needs = unknown_needs table.known (needs_of table parts);
+      sets = set_by table parts;
+      ends = ends_each table parts;
+    }
 
--- a rule is the last one so far, with this text and a target that sets what these matches ask
-abbrev pub with_rule : List ℕ → ReadRule → List (List ℕ) → Read → Read
-with_rule text rule set read =
+-- a rule is the last one so far, with this text
+abbrev pub with_rule : List ℕ → ReadRule → Read → Read
+with_rule text rule read =
     record {
       section = read.section;
       text = add_line read.text text;
       rules = read.rules ++ rule ∷ [];
-      sets = with_names read.sets set;
       moved = read.moved;
     }
 
--- A rule is taken: the words of its line are taken apart, what the program is given of them is its text, it needs the conditions that
--- aren't known, and what its target sets is noted.
+-- A rule is taken: the words of its line are taken apart, what the program is given of them is its text, and it needs the conditions that
+-- aren't known.
 pub record IsRuleTaken (table : Table) (line : RuleLine) (old new : Read) : Type 0 where
   pub parts : List Part
   pub apart : IsTakenApart table line.words parts
-  pub after : new ≡ with_rule (given_line table line parts) (read_rule table line parts) (set_by table parts) old
+  pub after : new ≡ with_rule (given_line table line parts) (read_rule table line parts) old
 
 -- A line with a rule is read: the rule is taken, and no line before it may have moved rules if one needs something.
 pub record IsRuleRead (table : Table) (line : RuleLine) (old new : Read) : Type 0 where
@@ -128,7 +132,7 @@ hides_target table name = hides (extension_of table.extensions name)
 
 -- rules may have moved by a word, if there is one; the first such word stays
 abbrev pub moved_by : Option (List ℕ) → Read → Read
-moved_by word read = record { section = read.section; text = read.text; rules = read.rules; sets = read.sets; moved = option_or read.moved word }
+moved_by word read = record { section = read.section; text = read.text; rules = read.rules; moved = option_or read.moved word }
 
 -- a line without a rule is noted, by the word by which it may move rules
 abbrev pub noted : OtherLine → Read → Read

@@ -37,6 +37,9 @@ role_word role.Unopposed = codes "unopposed"
 role_word role.Holds = codes "holds"
 role_word role.Says = codes "says"
 role_word role.Turns = codes "turns"
+role_word role.AsksOf = codes "asks-of"
+role_word role.Counts = codes "counts"
+role_word role.Sets = codes "sets"
 
 -- the word for a kind
 abbrev pub kind_word : Kind → List ℕ

@@ -26,7 +26,7 @@ use Rattle.dumps.specs.declared.apart.fault.ApartFault.{ApartFault}
 use Rattle.dumps.specs.declared.reading.line.RuleLine.{RuleLine}
 use Rattle.dumps.specs.declared.reading.line.OtherLine.{OtherLine}
 use Rattle.dumps.specs.declared.conditions.ForeignNeed.{ForeignNeed}
-use Rattle.dumps.specs.Foreign.{Needed, ReadRule, is_in, rules_in, sets_in}
+use Rattle.dumps.specs.Foreign.{Needed, ReadRule, is_in, rules_in}
 use Rattle.dumps.specs.Numbers.{Place, Asked, Numbers, Identity, has, identity_at, told, added, asked_by_rule, count_of, AreNumbered, AreApart}
 use Rattle.dumps.specs.declared.reading.foreign.NeededText.{NeededText}
 use Rattle.dumps.specs.declared.conditions.ConditionPlace.{ConditionPlace}
@@ -126,10 +126,21 @@ refusal_at (Some fault) = refusal_in fault
 abbrev pub PartGives : Result (Part × WordSlice) ApartFault → Result (parts.Part × List (List ℕ)) parts.Refusal → Type 0
 PartGives r given = GivesFor refusal_in (λ (x : Part × WordSlice). (part_in x.0, words_in x.1)) r given
 
+-- what a condition asks, by the thing that is named, if one is, and its match
+abbrev pub asks_in : Option (Bor (List ℕ)) → List ℕ → List ℕ
+asks_in None name = name
+asks_in (Some thing) name = conditions.named_thing thing.now
+
 -- a condition, as it is lent
 abbrev pub condition_in : Condition → conditions.Condition
 condition_in condition =
-    record { name = condition.name.now; lasting = condition.lasting; words = texts_in condition.words.items; inverted = condition.inverted }
+    record {
+      name = condition.name.now;
+      asks = asks_in condition.thing condition.name.now;
+      lasting = condition.lasting;
+      words = texts_in condition.words.items;
+      inverted = condition.inverted;
+    }
 
 -- all of them
 abbrev pub conditions_in : List Condition → List conditions.Condition
@@ -141,6 +152,7 @@ passes test.Asks part = conditions.asks part
 passes test.AsksOpposite part = conditions.is_opposed part && part.inverted
 passes test.Turns part = conditions.turns part
 passes test.Holds part = conditions.holds part
+passes test.Counts part = conditions.counts part
 
 -- what a part begins by its name, or by its protocol
 abbrev pub begun : Beginning → options.Table → parts.Part → Option (List ℕ)
@@ -189,7 +201,7 @@ place_in place = record { chain = place.at.chain.items; rule = place.at.rule; co
 
 -- a condition as it was asked first
 abbrev pub kept_in : Kept → Asked
-kept_in kept = record { name = kept.name.items; text = kept.text.items; place = option_map place_in kept.place }
+kept_in kept = record { name = kept.name.items; asks = kept.asks.items; text = kept.text.items; place = option_map place_in kept.place }
 
 -- all of them
 abbrev pub all_in : List Kept → List Asked
@@ -197,7 +209,7 @@ all_in all = map kept_in all
 
 -- the condition of a need
 abbrev pub asked_with : NeededText → Option KeptPlace → Asked
-asked_with need place = record { name = need.name.items; text = need.text.items; place = option_map place_in place }
+asked_with need place = record { name = need.name.items; asks = need.asks.items; text = need.text.items; place = option_map place_in place }
 
 -- the place that a key has
 abbrev pub key_place_in : Option (Vec ℕ × ℕ) → Option (List ℕ × ℕ)
@@ -268,7 +280,6 @@ read_in reading =
       section = reading.section;
       text = reading.text.items;
       rules = rules_in reading.foreign;
-      sets = sets_in reading.foreign;
       moved = option_map word_in reading.moved;
     }
 

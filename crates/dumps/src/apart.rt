@@ -10,7 +10,7 @@ pub(crate) mod target;
 use crate::apart::condition::{Condition, conditions_of};
 use crate::apart::own_line::append_own;
 use crate::apart::part::Part;
-use crate::apart::target::target_of;
+use crate::apart::target::{ends_each, set_by, target_of};
 use crate::options::row::ExtensionRow;
 use crate::options::table::OptionTable;
 use std::alloc::{AllocError, Global};
@@ -24,6 +24,7 @@ pub struct Apart<'a> {
 impl<'a> Apart<'a> {
     ghost use Rattle.std.specs.Prelude.{◌≡◌, ◌++◌, IfOk, option_map};
     ghost use Rattle.dumps.specs.Parts.{target_of};
+    ghost use Rattle.dumps.specs.Foreign.{ends_each, kept_names, set_by};
     ghost use Rattle.dumps.specs.Own.{own_words, line_of, OwnLinesReadBack};
     ghost use Rattle.dumps.specs.Conditions.{conditions, NothingIsLost};
     ghost use Rattle.dumps.specs.Views.{conditions_in, extension_in, table_in, parts_of, parts_in};
@@ -86,5 +87,23 @@ impl<'a> Apart<'a> {
         ensures { option_map extension_in result ≡ target_of (table_in table.now) (parts_in self.now) }
     {
         target_of(table, self.parts.as_slice())
+    }
+
+    // What the target of the line sets: what some matches ask, and things by their names.
+    pub(crate) fn sets(
+        &self,
+        alloc: Global,
+        table: &OptionTable<'a>,
+    ) -> Result<Vec<Vec<u8>>, AllocError>
+        ensures { IfOk result (λ set. kept_names set.items ≡ set_by (table_in table.now) (parts_in self.now)) }
+    {
+        set_by(alloc, table, self.parts.as_slice())
+    }
+
+    // Whether a rule of the line ends the walk of each packet.
+    pub(crate) fn ends_each(&self, table: &OptionTable<'a>) -> bool
+        ensures { result ≡ ends_each (table_in table.now) (parts_in self.now) }
+    {
+        ends_each(table, self.parts.as_slice())
     }
 }

@@ -1,6 +1,6 @@
 //! The conditions of one or two dumps, by their numbers.
 ghost use Rattle.std.specs.Prelude.{◌≡◌, ◌+◌, ℕ, ◌∷◌, [], ◌++◌, List, Some, IfOk, OnOk, option_map, if◌then◌else◌};
-ghost use Rattle.std.specs.List.{list_any, flat_map};
+ghost use Rattle.std.specs.List.{flat_map};
 ghost use Rattle.std.specs.Str.{bytes_eq};
 ghost use Rattle.std.specs.Global.{Vec};
 ghost use Rattle.dumps.specs.Foreign.{needed_in, kept_names, sets_in, is_named};
@@ -9,6 +9,7 @@ ghost use Rattle.dumps.specs.Views.{place_in, kept_in, all_in, identity_in, key_
 
 use crate::options::row::Lasting;
 use crate::reading::foreign::{Foreign, ForeignRule, NeededText, is_named};
+use crate::reading::line::begins_with;
 use std::alloc::{AllocError, Global};
 use std::collections::BTreeMap;
 use std::marker::Model;
@@ -42,6 +43,7 @@ struct KeptPlace {
 #[derive(Drop)]
 struct Kept {
     name: Vec<u8>,
+    asks: Vec<u8>,
     text: Vec<u8>,
     place: Option<KeptPlace>,
 }
@@ -63,8 +65,8 @@ struct Standing<'a> {
 
 /// The conditions of one or two dumps, numbered as they come: what the packet alone decides has one number a text; what depends
 /// on the moment has one a place, which is told by the chain, the text and the how-many-eth condition of a place with that text in the
-/// chain it is, so that a rule put into the chain moves no condition of another text. What a target of one of the dumps sets is told by
-/// the place too.
+/// chain it is, so that a rule put into the chain moves no condition of another text. What a target of one of the dumps sets while a packet walks is
+/// told by the place too.
 #[derive(Drop)]
 pub struct Conditions {
     alloc: Global,
@@ -129,42 +131,25 @@ fn kept_of(alloc: Global, need: &NeededText, place: Option<KeptPlace>) -> Result
     ensures { IfOk result (λ kept. kept_in kept ≡ asked_with need.now place) }
 {
     let name = need.name.as_slice().to_vec(alloc)?;
+    let asks = need.asks.as_slice().to_vec(alloc)?;
     let text = need.text.as_slice().to_vec(alloc)?;
-    Ok(Kept { name, text, place })
+    Ok(Kept {
+        name,
+        asks,
+        text,
+        place,
+    })
 }
 
-// Adds copies of names.
-fn add_names(alloc: Global, set: &mut Vec<Vec<u8>>, names: &[Vec<u8>]) -> Result<(), AllocError>
-    ensures { IfOk result (λ _. kept_names set.new.items ≡ kept_names set.old.items ++ kept_names names.now) }
-{
-    for name in names {
-        let name = name.as_slice().to_vec(alloc)?;
-        set.push(name)?;
-    }
-    Ok(())
-}
-
-// The names of what targets of some dumps set.
+// What targets of some dumps set while a packet walks.
 fn names_set(alloc: Global, dumps: &[&Foreign]) -> Result<Vec<Vec<u8>>, AllocError>
     ensures { IfOk result (λ set. kept_names set.items ≡ flat_map (λ dump. sets_in dump.now) dumps.now) }
 {
     let mut set = Vec::new(alloc);
     for foreign in dumps {
-        add_names(alloc, &mut set, foreign.set.as_slice())?;
+        foreign.add_written(alloc, &mut set)?;
     }
     Ok(set)
-}
-
-// Whether a target sets what one of some conditions asks.
-fn one_is_set(kept: &[Kept], set: &[Vec<u8>]) -> bool
-    ensures { result ≡ list_any (λ one. is_named (kept_names set.now) one.name) (all_in kept.now) }
-{
-    for one in kept {
-        if is_named(set, one.name.as_slice()) {
-            return true;
-        }
-    }
-    false
 }
 
 // Whether a condition is told by its place, where a target sets what it asks or none does.
@@ -183,7 +168,7 @@ impl Conditions {
     ghost use Rattle.std.specs.List.{slice_get, flat_map};
     ghost use Rattle.dumps.specs.Foreign.{Needed, needed_in, needs_in, ReadRule, rule_in, rules_in, sets_in, inversions, inversions_of};
     ghost use Rattle.dumps.specs.Views.{inversions_in, all_inversions_in, at_in, place_in, kept_in, identity_in, asked_with, numbers_of, numbers_in, AreCounts, AreNeedsNumbered, AreNumberedSoFar};
-    ghost use Rattle.dumps.specs.Numbers.{Numbers, has, identity_of, identity_at, told, added, is_of_place, place_of, text_of, name_of, place_at, rule_of, some_set, AreNumbered, AreApart, NumbersTellConditions};
+    ghost use Rattle.dumps.specs.Numbers.{Numbers, has, identity_of, identity_at, told, added, is_of_place, is_of_thing, place_of, text_of, name_of, place_at, rule_of, is_set, AreNumbered, AreApart, NumbersTellConditions};
 
     /// No condition so far, of these dumps.
     ///
@@ -208,7 +193,7 @@ impl Conditions {
         ensures { result ≡ is_of_place self.now.sets (needed_in need.now) }
     {
         lasts_at_place(
-            is_named(self.set.as_slice(), need.name.as_slice()),
+            is_named(self.set.as_slice(), need.asks.as_slice()),
             need.lasting,
         )
     }
@@ -388,11 +373,14 @@ impl Conditions {
         self.needs_among(foreign.rules.as_slice(), chain)
     }
 
-    /// Whether a target of the dumps sets what some condition asks.
-    pub fn are_set(&self) -> bool
-        ensures { result ≡ some_set self.now }
+    /// Whether a target of the dumps sets, while a packet walks, what a condition asks.
+    pub fn is_set(&self, number: usize) -> bool
+        ensures { result ≡ is_set self.now.sets (slice_get self.now.all number) }
     {
-        one_is_set(self.kept.as_slice(), self.set.as_slice())
+        match self.kept.get(number) {
+            None => return false,
+            Some(kept) => return is_named(self.set.as_slice(), kept.asks.as_slice()),
+        }
     }
 
     /// How many conditions there are.
@@ -428,6 +416,19 @@ impl Conditions {
         match self.kept.get(number) {
             None => return &[],
             Some(kept) => return kept.name.as_slice(),
+        }
+    }
+
+    /// Whether a condition is of a thing that its words name, as a set of addresses is, and not of a place: all rules that ask it in the same words have
+    /// one answer as long as nothing changes the thing.
+    pub fn is_of_thing(&self, number: usize) -> bool
+        ensures { result ≡ is_of_thing (slice_get self.now.all number) }
+    {
+        match self.kept.get(number) {
+            None => return false,
+            Some(kept) => {
+                return begins_with(kept.asks.as_slice(), b' ') && kept.place.is_none();
+            }
         }
     }
 

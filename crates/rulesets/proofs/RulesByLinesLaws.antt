@@ -13,7 +13,7 @@ use Rattle.restore.specs.Sequence.{◌>>=◌}
 use Rattle.restore.specs.declared.fault.RestoreFault.{RestoreFault}
 use Rattle.restore.specs.sections.Section.{Asked, Section, asked, begun, done, edited_by, line_in, lines_in, with_name}
 use Rattle.dumps.specs.Beside.{AreStill, IsStill, Keeps, MovesNone, Puts, chain_in, chain_of}
-use Rattle.dumps.specs.Foreign.{Needed, ReadRule, is_in}
+use Rattle.dumps.specs.Foreign.{ReadRule, is_in}
 use Rattle.dumps.specs.Reading.{is_too_long}
 use Rattle.dumps.specs.SectionLines.{RuleLine, moving, other_line, rule_line}
 use Rattle.rulesets.specs.RulesByLines.{AreBesideNeeds, RulesStandBesideNeeds, if_read, put_by, rule_put}
@@ -97,10 +97,10 @@ IsStep s after mid line name =
     ((rest : List Rule) → rules_of after.table.chains name ++ rest ≡ rules_of s.table.chains name ++ cons_option (put_by name line) rest)
     × (length (rules_of after.table.chains name) ≡ length (filter (is_in name) mid))
 
-put_step : (s after : Section) (old : List ReadRule) (line chain : List ℕ) (needs : List Needed) → AreAsMany s.table old → chain_of line ≡ Some chain → line_in s line ≡ Ok after
-    → (name : List ℕ) → IsStep s after (old ++ record { chain = chain; needs = needs } ∷ []) line name
-put_step s after old line chain needs many puts is name =
-    let (words, rule, found, own, same) = puts_line line chain puts in
+put_step : (s after : Section) (old : List ReadRule) (line : List ℕ) (one : ReadRule) → AreAsMany s.table old → chain_of line ≡ Some one.chain → line_in s line ≡ Ok after
+    → (name : List ℕ) → IsStep s after (old ++ one ∷ []) line name
+put_step s after old line one many puts is name =
+    let (words, rule, found, own, same) = puts_line line one.chain puts in
     let (a, asks, edited) = asked_in s after line is in
     let (r, read, edit) = line_with_rule s line words rule a asks found own in
     let put : edited_by (Some (Append rule.chain r)) s.table ≡ Ok after.table = sym (ap (λ o. edited_by o s.table) edit) ∙ edited in
@@ -113,8 +113,8 @@ put_step s after old line chain needs many puts is name =
       λ rest. each rest ∙ ap (λ o. rules_of s.table.chains name ++ cons_option o rest) (sym by),
       long
           ∙ ap (λ (c : List ℕ). length (rules_of s.table.chains name) + cond (bytes_eq c name) 1 0) same
-          ∙ ap (λ n. n + cond (bytes_eq chain name) 1 0) (many name)
-          ∙ sym (counted_more name old (record { chain = chain; needs = needs })),
+          ∙ ap (λ n. n + cond (bytes_eq one.chain name) 1 0) (many name)
+          ∙ sym (counted_more name old one),
     )
 
 keep_step : (s after : Section) (old : List ReadRule) (line : List ℕ) → AreAsMany s.table old
@@ -136,8 +136,8 @@ keep_step s after old line many still is name =
 
 line_step : (s after : Section) (old mid : List ReadRule) (line : List ℕ) → AreAsMany s.table old → IsStill old mid line → line_in s line ≡ Ok after
     → (name : List ℕ) → IsStep s after mid line name
-line_step s after old mid line many (Puts chain needs puts same) is name =
-    subst (λ (rules : List ReadRule). IsStep s after rules line name) (sym same) (put_step s after old line chain needs many puts is name)
+line_step s after old mid line many (Puts one puts same) is name =
+    subst (λ (rules : List ReadRule). IsStep s after rules line name) (sym same) (put_step s after old line one many puts is name)
 line_step s after old mid line many (Keeps same (inr still)) is name =
     subst (λ (rules : List ReadRule). IsStep s after rules line name) (sym same) (keep_step s after old line many still is name)
 line_step s after old mid line many (Keeps same (inl long)) is name = absurd (go (taken s line (asked_in s after line is).0 (asked_in s after line is).1))

@@ -1,5 +1,5 @@
 //! Why a ruleset cannot be read.
-use dumps::OptionRefusal;
+use dumps::{LineWord, OptionRefusal};
 use programs::ProgramFault;
 use std::alloc::AllocError;
 use thiserror::Error;
@@ -34,9 +34,9 @@ pub enum RulesetFault<'a> {
     /// A file that is asked for the verdicts of a set of packets.
     #[error("reach cannot take conditions, which {0} has")]
     HasConditions(&'a str),
-    /// Two files of which a target sets what a condition asks.
-    #[error("compare cannot take conditions that a target sets, as MARK does")]
-    AreSet,
+    /// A condition of two files that `--when` leaves open, of which a target sets what it asks.
+    #[error("compare cannot take a condition that a target sets, as MARK does, but with --when: {0}")]
+    IsSet(LineWord),
     /// A file was refused, and its fault was written.
     #[error("cannot restore {0}")]
     CannotRestore(&'a str),

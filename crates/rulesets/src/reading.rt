@@ -3,7 +3,7 @@ use crate::conditions::open_conditions::{OpenConditions, Taken};
 use crate::dump::{Dump, listed_needs};
 use crate::fault::RulesetFault;
 use crate::loading::{Loaded, load_dump};
-use dumps::Conditions;
+use dumps::{Conditions, LineWord};
 use programs::Audit;
 use questions::{BoxedTable, Need};
 use std::alloc::{AllocError, Global};
@@ -155,8 +155,7 @@ struct Numbered {
     new: Vec<Vec<Vec<Need>>>,
 }
 
-// The conditions of two loaded files are numbered, and their needs listed. What a target sets may differ between them, so that its conditions can't
-// be compared.
+// The conditions of two loaded files are numbered, and their needs listed.
 fn listed_two<'a>(
     alloc: Global,
     old: &'a str,
@@ -167,9 +166,6 @@ fn listed_two<'a>(
     let mut conditions = Conditions::new(alloc, &[&first.foreign, &second.foreign])?;
     let needed = needs_of(alloc, old, first, &mut conditions)?;
     let needed_later = needs_of(alloc, new, second, &mut conditions)?;
-    if conditions.are_set() {
-        return Err(RulesetFault::AreSet);
-    }
     Ok(Numbered {
         conditions,
         old: needed,
@@ -189,7 +185,7 @@ fn two_of(
     Ok(TwoDumps { old, new, open })
 }
 
-// The dumps of two loaded files.
+// The dumps of two loaded files. What a target sets may differ between them, so that conditions of it can't be compared.
 fn two_loaded<'a>(
     alloc: Global,
     first: Loaded,
@@ -204,6 +200,10 @@ fn two_loaded<'a>(
     } = numbered;
     let (old, new) = (listed(first, old), listed(second, new));
     let open = answered(alloc, conditions, true, when)?;
+    if let Some(condition) = open.first_set() {
+        let words = LineWord::of(alloc, open.text(condition))?;
+        return Err(RulesetFault::IsSet(words));
+    }
     Ok(two_of(alloc, old, new, open)?)
 }
 
@@ -211,7 +211,7 @@ fn two_loaded<'a>(
 ///
 /// # Errors
 ///
-/// `AreSet`, and those of `read_one`.
+/// `IsSet`, and those of `read_one`.
 pub fn read_two<'a, R, E>(
     rt: &R,
     errors: &E,

@@ -71,7 +71,7 @@ def test_cover(iptaudit):
     """Runs `cover` on twenty sets of banned hosts: a packet of no chain comes to each jump, and back from there, if its own set has the packet."""
     rules = banned(20)
     ended = iptaudit.run(["cover", "R"], {"R": dump_of(rules)}, PACKET)
-    came = re.findall(rb"(?m)^if (\S+ \d+) -A .*\n  if set --match-set f2b-(\d+) src at \S+ \d+$", ended.stdout)
+    came = re.findall(rb"(?m)^if (\S+ \d+) -A .*\n  if set --match-set f2b-(\d+) src$", ended.stdout)
     due = [(name % number, b"%d" % jail) for jail in range(20) for name, number in ((b"INPUT %d", jail + 1), (b"f2b-%d 2", jail))]
     counts = b"62 rules, 41 covered (40 if conditions hold), 20 missed, 1 dead, 0 unclear"
     assert (ended.returncode, sorted(came), counts in ended.stdout.splitlines(), ended.stderr) == (1, sorted(due), True, b"")

@@ -15,11 +15,11 @@ use Rattle.fields.proofs.laws.text.PrintedLaws.{found_words}
 use Rattle.dumps.specs.Options.{Table, Known, known_of}
 use Rattle.dumps.specs.Parts.{IsRefused, IsTakenApart, Part}
 use Rattle.dumps.specs.SectionLines.{RuleLine, is_either, begins_with, is_commit, is_commit_word, moving, named, other_line, rule_after, rule_line}
-use Rattle.dumps.specs.Reading.{Between, Filter, IsLineRead, Read, RulesMoved, noted, other_refusal, refused_move, refused_name, Refusal, apart_refusal, IsMovedWith, IsRuleTaken, IsRuleRefused, Apart, Moved, Section, is_too_long, add_line, kept, closed, own_text, needs_of, given_line, IsFilterRead, IsReadAt, AreWordsRead}
+use Rattle.dumps.specs.Reading.{Between, Filter, IsLineRead, Read, RulesMoved, refused_move, refused_name, Refusal, apart_refusal, IsMovedWith, IsRuleTaken, IsRuleRefused, Apart, Moved, Section, is_too_long, add_line, kept, closed, own_text, needs_of, given_line, read_rule, IsFilterRead, IsReadAt, AreWordsRead}
 use Rattle.dumps.specs.Views.{refused_in}
 use Rattle.dumps.specs.declared.reading.fault.DumpFault.{DumpFault}
 use Rattle.dumps.specs.Beside.{AreRead, AreStill, IsStill, Keeps as StaysStill, MovesNone, NeededRulesStandStill, Puts, CameTogether, LinesComeWithRules, chain_in, chain_of, GivesOneLine, IsBeside, Rule, NoRule, RulesStandBesideLines}
-use Rattle.dumps.specs.Foreign.{Needed, ReadRule, needs_some, words_by, words_for, known_words, unknown_needs}
+use Rattle.dumps.specs.Foreign.{Needed, ReadRule, needs_some, words_by, words_for, known_words}
 use Rattle.dumps.specs.Own.{own_words, spelled, line_of}
 use Rattle.dumps.specs.Parts as parts
 use Rattle.dumps.proofs.laws.OneLineLaws.{own_one}
@@ -167,7 +167,7 @@ rules_stand_beside_lines table line old new read gives section = at_length (is_t
     by_rule words e None none h = NoRule (ap (λ (r : Read). r.text) h.after) (inr (none_puts words e (ap chain_in none))) (ap (λ (r : Read). r.rules) h.after)
     by_rule words e (Some rule) some h =
         let keeps = rule_keeps words rule some (found_words words line e) in
-        Rule (given_line table rule h.taken.parts) rule.chain (unknown_needs table.known (needs_of table h.taken.parts)) (ap (λ (r : Read). r.text) h.taken.after)
+        Rule (given_line table rule h.taken.parts) (read_rule table rule h.taken.parts) (ap (λ (r : Read). r.text) h.taken.after)
         (given_keeps table rule h.taken.parts gives keeps h.taken.apart) (ap (λ (r : Read). r.rules) h.taken.after)
 
     by_commit : (words : List (List ℕ)) → words_of line ≡ Some words → (b : Bool) → is_commit line words ≡ b
@@ -192,19 +192,17 @@ lines_behind old mid new line lines first rest =
     rest ∙ ap (λ (t : List ℕ). t ++ flat_map (λ (l : List ℕ). l ++ 10 ∷ []) lines) first ∙ append_assoc old (line ++ 10 ∷ []) (flat_map (λ (l : List ℕ). l ++ 10 ∷ []) lines)
 
 -- one line and its rule come first
-rule_first : (given chain : List ℕ) (needs : List Needed) (old mid new : Read) → mid.text ≡ add_line old.text given → chain_of given ≡ Some chain
-    → mid.rules ≡ old.rules ++ record { chain = chain; needs = needs } ∷ [] → CameTogether mid new → CameTogether old new
-rule_first given chain needs old mid new text puts rules rest =
-    let rule : ReadRule = record { chain = chain; needs = needs } in
-    record {
-      lines = given ∷ rest.lines;
-      rules = rule ∷ rest.rules;
-      text = lines_behind old.text mid.text new.text given rest.lines text rest.text;
-      behind = rest.behind ∙ ap (λ (l : List ReadRule). l ++ rest.rules) rules ∙ append_assoc old.rules (rule ∷ []) rest.rules;
-      chains = λ short.
-          ap (λ o. cons_option o (filter_map chain_of rest.lines)) puts
-          ∙ ap (λ (l : List (List ℕ)). chain ∷ l) (rest.chains (All-tail (λ (l : List ℕ). is_too_long l ≡ false) given rest.lines short));
-    }
+rule_first : (given : List ℕ) (rule : ReadRule) (old mid new : Read) → mid.text ≡ add_line old.text given → chain_of given ≡ Some rule.chain
+    → mid.rules ≡ old.rules ++ rule ∷ [] → CameTogether mid new → CameTogether old new
+rule_first given rule old mid new text puts rules rest = record {
+  lines = given ∷ rest.lines;
+  rules = rule ∷ rest.rules;
+  text = lines_behind old.text mid.text new.text given rest.lines text rest.text;
+  behind = rest.behind ∙ ap (λ (l : List ReadRule). l ++ rest.rules) rules ∙ append_assoc old.rules (rule ∷ []) rest.rules;
+  chains = λ short.
+      ap (λ o. cons_option o (filter_map chain_of rest.lines)) puts
+      ∙ ap (λ (l : List (List ℕ)). rule.chain ∷ l) (rest.chains (All-tail (λ (l : List ℕ). is_too_long l ≡ false) given rest.lines short));
+}
 
 -- one line without a rule comes first
 other_first : (line : List ℕ) (old mid new : Read) → mid.text ≡ add_line old.text line → (is_too_long line ≡ true) ⊎ (chain_of line ≡ None) → mid.rules ≡ old.rules
@@ -231,8 +229,8 @@ lines_come_with_rules [] old new same = record {
   behind = ap (λ (r : Read). r.rules) same ∙ sym (append-nil old.rules);
   chains = λ short. refl;
 }
-lines_come_with_rules (line ∷ lines) old new (mid, Rule given chain needs text puts rules, rest) =
-    rule_first given chain needs old mid new text puts rules (lines_come_with_rules lines mid new rest)
+lines_come_with_rules (line ∷ lines) old new (mid, Rule given rule text puts rules, rest) =
+    rule_first given rule old mid new text puts rules (lines_come_with_rules lines mid new rest)
 lines_come_with_rules (line ∷ lines) old new (mid, NoRule text none rules, rest) =
     other_first line old mid new text none rules (lines_come_with_rules lines mid new rest)
 
@@ -268,7 +266,7 @@ still_line table line old mid gives section read inside unmoved = at_length (is_
         before = sym (ap (λ (r : Read). r.moved) h.taken.after) ∙ unmoved
 
         go : IsBeside line old mid → (given : List ℕ) × IsLineStill given old mid
-        go (Rule given chain needs text puts rules) = (given, (text, Puts chain needs puts rules, before))
+        go (Rule given rule text puts rules) = (given, (text, Puts rule puts rules, before))
         go (NoRule text none rules) =
             let one_more : length mid.rules ≡ length old.rules + 1 = ap (λ (r : Read). length r.rules) h.taken.after ∙ length-append old.rules _ in
             let as_many : length mid.rules ≡ length old.rules = ap (λ (l : List ReadRule). length l) rules in

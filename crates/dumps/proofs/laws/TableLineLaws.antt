@@ -37,7 +37,7 @@ is-role word r = bytes_eq (role_word r) word
 abbrev is-kind : List ℕ → Kind → Bool
 is-kind word k = bytes_eq (kind_word k) word
 
-role-at : (word : List ℕ) (i : ℕ) (r : Role) → i < 11 → is-role word (slice_index_or ROLES i r) ≡ true → list_any (is-role word) ROLES ≡ true
+role-at : (word : List ℕ) (i : ℕ) (r : Role) → i < 14 → is-role word (slice_index_or ROLES i r) ≡ true → list_any (is-role word) ROLES ≡ true
 role-at word i r inside is = list_any_at (is-role word) ROLES i r inside is
 
 kind-at : (word : List ℕ) (i : ℕ) (k : Kind) → i < 9 → is-kind word (slice_index_or KINDS i k) ≡ true → list_any (is-kind word) KINDS ≡ true
@@ -56,6 +56,9 @@ among-roles word role.Unopposed is = role-at word 7 role.Unopposed (omega arith)
 among-roles word role.Holds is = role-at word 8 role.Holds (omega arith) is
 among-roles word role.Says is = role-at word 9 role.Says (omega arith) is
 among-roles word role.Turns is = role-at word 10 role.Turns (omega arith) is
+among-roles word role.AsksOf is = role-at word 11 role.AsksOf (omega arith) is
+among-roles word role.Counts is = role-at word 12 role.Counts (omega arith) is
+among-roles word role.Sets is = role-at word 13 role.Sets (omega arith) is
 
 among-kinds : (word : List ℕ) (k : Kind) → is-kind word k ≡ true → list_any (is-kind word) KINDS ≡ true
 among-kinds word (kind.Known false) is = kind-at word 0 (kind.Known false) (omega arith) is

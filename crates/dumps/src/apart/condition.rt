@@ -1,11 +1,11 @@
 //! The conditions of a line: what its foreign parts ask.
-ghost use Rattle.std.specs.Prelude.{◌≡◌, ◌++◌, ◌∷◌, [], ◌&&◌, ◌||◌, not, IfOk, filter, flat_map};
+ghost use Rattle.std.specs.Prelude.{ℕ, List, ◌≡◌, ◌++◌, ◌∷◌, [], ◌&&◌, ◌||◌, not, IfOk, filter, flat_map};
 ghost use Rattle.dumps.specs.Own.{is_of};
 ghost use Rattle.std.specs.List.{list_any};
 ghost use Rattle.fields.specs.text.WordSlice.{words_in};
 ghost use Rattle.dumps.specs.Parts.{spelled_words};
-ghost use Rattle.dumps.specs.Conditions.{asks, is_opposed, turns, holds, is_single, differ, is_inverted, text_words, always_hold, unless_always, is_unread, asked_options, asked_as, asked_by, is_there, implied_by, protocol_condition, asked_first, conditions};
-ghost use Rattle.dumps.specs.Views.{table_in, texts_in, part_in, parts_of, passes, conditions_in};
+ghost use Rattle.dumps.specs.Conditions.{asks, asked_thing, counts, lasting_by, is_opposed, turns, holds, is_single, differ, is_inverted, text_words, always_hold, unless_always, is_unread, asked_options, asked_as, asked_by, is_there, implied_by, protocol_condition, asked_first, conditions};
+ghost use Rattle.dumps.specs.Views.{asks_in, table_in, texts_in, part_in, parts_of, passes, conditions_in};
 
 use crate::apart::own::{begins, is_of, is_read, up_to_next};
 use crate::apart::part::Part;
@@ -19,6 +19,8 @@ use std::alloc::{AllocError, Global};
 pub struct Condition<'a> {
     /// The name of the match, or `protocol`.
     pub name: &'a [u8],
+    /// The thing of which it is asked, where an option names one.
+    pub thing: Option<&'a [u8]>,
     pub lasting: Lasting,
     /// The words of its text, after the name.
     pub words: Vec<&'a [u8]>,
@@ -31,7 +33,7 @@ fn asks(part: &Part<'_>) -> bool
     ensures { result ≡ asks (part_in part.now) }
 {
     match part.row.role {
-        Role::Says | Role::Turns => false,
+        Role::Says | Role::Turns | Role::Sets => false,
         _ => true,
     }
 }
@@ -51,7 +53,7 @@ fn is_opposed(part: &Part<'_>) -> bool
     ensures { result ≡ is_opposed (part_in part.now) }
 {
     match part.row.role {
-        Role::Asks | Role::Holds => true,
+        Role::Asks | Role::AsksOf | Role::Holds => true,
         _ => false,
     }
 }
@@ -66,6 +68,16 @@ fn holds(part: &Part<'_>) -> bool
     }
 }
 
+// Whether a part asks how often packets before had its match.
+fn counts(part: &Part<'_>) -> bool
+    ensures { result ≡ counts (part_in part.now) }
+{
+    match part.row.role {
+        Role::Counts => true,
+        _ => false,
+    }
+}
+
 // What a part may be.
 #[derive(Clone, Copy)]
 enum Test {
@@ -73,6 +85,7 @@ enum Test {
     AsksOpposite,
     Turns,
     Holds,
+    Counts,
 }
 
 // Whether a part is so.
@@ -84,6 +97,7 @@ fn passes(test: Test, part: &Part<'_>) -> bool
         Test::AsksOpposite => is_opposed(part) && part.inverted,
         Test::Turns => turns(part),
         Test::Holds => holds(part),
+        Test::Counts => counts(part),
     }
 }
 
@@ -176,6 +190,28 @@ fn text_of<'a>(alloc: Global, parts: &[Part<'a>], single: bool) -> Result<Vec<&'
     Ok(words)
 }
 
+// The thing that the first of the parts names which names one.
+fn asked_thing<'a>(parts: &[Part<'a>]) -> Option<&'a [u8]>
+    ensures { (name : List ℕ) → asks_in result name ≡ asked_thing name (parts_of parts.now) }
+{
+    for part in parts {
+        if part.row.role == Role::AsksOf {
+            return Some(part.value());
+        }
+    }
+    None
+}
+
+// Of which uses the condition is one that the parts ask.
+fn lasting_by(parts: &[Part<'_>], lasting: Lasting) -> Lasting
+    ensures { result ≡ lasting_by (parts_of parts.now) lasting }
+{
+    if one_passes(Test::Counts, parts) {
+        return Lasting::Place;
+    }
+    lasting
+}
+
 // Adds the condition that the parts ask, unless it always holds.
 fn add_condition<'a>(
     alloc: Global,
@@ -193,7 +229,8 @@ fn add_condition<'a>(
     let words = text_of(alloc, parts, is_single(parts))?;
     conditions.push(Condition {
         name,
-        lasting,
+        thing: asked_thing(parts),
+        lasting: lasting_by(parts, lasting),
         words,
         inverted: is_inverted(parts),
     })?;
@@ -301,6 +338,7 @@ fn add_protocol<'a>(
     words.push(part.value())?;
     conditions.push(Condition {
         name: b"protocol".as_slice(),
+        thing: None,
         lasting: Lasting::Text,
         words,
         inverted: part.inverted,

@@ -1,12 +1,18 @@
 //! The target of a line.
-ghost use Rattle.std.specs.Prelude.{◌≡◌, option_map};
+ghost use Rattle.std.specs.Prelude.{◌≡◌, ◌++◌, option_map, IfOk};
+ghost use Rattle.std.specs.List.{list_all};
+ghost use Rattle.dumps.specs.Foreign.{ends_each, is_of_target, kept_names, set_by, set_things};
+ghost use Rattle.dumps.specs.Conditions.{named_thing};
+ghost use Rattle.dumps.specs.Options.{is_ending};
 ghost use Rattle.dumps.specs.Parts.{target_by, target_of};
-ghost use Rattle.dumps.specs.Views.{table_in, extension_in, part_in, parts_of};
+ghost use Rattle.dumps.specs.Views.{table_in, extension_in, part_in, parts_of, texts_in};
 
+use crate::apart::own::is_of;
 use crate::apart::part::Part;
 use crate::apart::taking::has_target;
-use crate::options::row::{ExtensionRow, Role};
+use crate::options::row::{ExtensionRow, Kind, Role};
 use crate::options::table::{OptionTable, extension_in};
+use std::alloc::{AllocError, Global};
 
 // The target that a part names, where the table has it.
 fn target_by<'a>(table: &OptionTable<'a>, part: &Part<'_>) -> Option<ExtensionRow<'a>>
@@ -31,4 +37,88 @@ pub(crate) fn target_of<'a>(table: &OptionTable<'a>, parts: &[Part<'_>]) -> Opti
         }
     }
     found
+}
+
+// Adds copies of names.
+fn add_names(alloc: Global, set: &mut Vec<Vec<u8>>, names: &[&[u8]]) -> Result<(), AllocError>
+    ensures { IfOk result (λ _. kept_names set.new.items ≡ kept_names set.old.items ++ texts_in names.now) }
+{
+    for name in names {
+        set.push(name.to_vec(alloc)?)?;
+    }
+    Ok(())
+}
+
+// A thing by its name: a blank stands before it.
+pub(crate) fn named_thing(alloc: Global, name: &[u8]) -> Result<Vec<u8>, AllocError>
+    ensures { IfOk result (λ thing. thing.items ≡ named_thing name.now) }
+{
+    let mut thing = Vec::new(alloc);
+    thing.push(b' ')?;
+    thing.extend_from_slice(name)?;
+    Ok(thing)
+}
+
+// Adds the things that parts name which their target sets, each behind a blank.
+fn add_things(alloc: Global, set: &mut Vec<Vec<u8>>, parts: &[Part<'_>]) -> Result<(), AllocError>
+    ensures { IfOk result (λ _. kept_names set.new.items ≡ kept_names set.old.items ++ set_things (parts_of parts.now)) }
+{
+    for part in parts {
+        if part.row.role == Role::Sets {
+            set.push(named_thing(alloc, part.value())?)?;
+        }
+    }
+    Ok(())
+}
+
+// What the target of parts sets: what some matches ask, and things by their names.
+pub(crate) fn set_by(
+    alloc: Global,
+    table: &OptionTable<'_>,
+    parts: &[Part<'_>],
+) -> Result<Vec<Vec<u8>>, AllocError>
+    ensures { IfOk result (λ set. kept_names set.items ≡ set_by (table_in table.now) (parts_of parts.now)) }
+{
+    let mut set = Vec::new(alloc);
+    if let Some(row) = target_of(table, parts) {
+        add_names(alloc, &mut set, row.sets)?;
+    }
+    add_things(alloc, &mut set, parts)?;
+    Ok(set)
+}
+
+// Whether all parts are those of a target.
+fn are_of_target(name: &[u8], parts: &[Part<'_>]) -> bool
+    ensures { result ≡ list_all (is_of_target name.now) (parts_of parts.now) }
+{
+    for part in parts {
+        if part.row.role != Role::Target && !is_of(name, part) {
+            return false;
+        }
+    }
+    true
+}
+
+// Whether a target is one that the program reads and that may end the walk.
+fn is_ending(kind: Kind) -> bool
+    ensures { result ≡ is_ending kind }
+{
+    match kind {
+        Kind::Ends => true,
+        Kind::Known { .. } | Kind::Foreign(_) | Kind::Logs | Kind::Passes | Kind::Decides => false,
+    }
+}
+
+// Whether a rule of these parts ends the walk of each packet.
+pub(crate) fn ends_each(table: &OptionTable<'_>, parts: &[Part<'_>]) -> bool
+    ensures { result ≡ ends_each (table_in table.now) (parts_of parts.now) }
+{
+    match target_of(table, parts) {
+        None => false,
+        Some(row) => {
+            is_ending(row.kind)
+                && row.name != b"RETURN".as_slice()
+                && are_of_target(row.name, parts)
+        }
+    }
 }

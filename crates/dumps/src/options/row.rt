@@ -25,6 +25,12 @@ pub enum Role {
     Says,
     /// It turns what its match asks.
     Turns,
+    /// It asks a condition of the thing that its first value names, and after `!` its opposite.
+    AsksOf,
+    /// It asks how often packets before had its match: the condition is one of its place.
+    Counts,
+    /// It says that its target sets the thing that its first value names.
+    Sets,
 }
 
 /// Of which uses one condition is asked.
@@ -74,6 +80,6 @@ pub struct ExtensionRow<'a> {
     pub kind: Kind,
     /// The protocols, as `-p` names them, with which one of its options begins it without `-m`.
     pub protocols: &'a [&'a [u8]],
-    /// The matches that ask what the target sets.
+    /// The matches that ask what the target sets, other than by the name of a thing.
     pub sets: &'a [&'a [u8]],
 }

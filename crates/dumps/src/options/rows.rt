@@ -156,16 +156,16 @@ rpfilter turns 0 --invert
 sctp unopposed 1 --sport --source-port
 sctp unopposed 1 --dport --destination-port
 sctp unopposed 2 --chunk-types
-set asks 2 --match-set
+set asks-of 2 --match-set
 set says 0 --return-nomatch
 set says 0 --update-counters
 set says 0 --update-subcounters
-set unopposed 1 --packets-eq
-set unopposed 1 --packets-lt
-set unopposed 1 --packets-gt
-set unopposed 1 --bytes-eq
-set unopposed 1 --bytes-lt
-set unopposed 1 --bytes-gt
+set counts 1 --packets-eq
+set counts 1 --packets-lt
+set counts 1 --packets-gt
+set counts 1 --bytes-eq
+set counts 1 --bytes-lt
+set counts 1 --bytes-gt
 socket asks 0 --transparent
 socket says 0 --nowildcard
 statistic says 1 --mode
@@ -231,9 +231,9 @@ NFLOG says 1 --nflog-threshold
 RATEEST says 1 --rateest-name
 RATEEST says 1 --rateest-interval
 RATEEST says 1 --rateest-ewmalog
-SET says 2 --add-set
-SET says 2 --del-set
-SET says 2 --map-set
+SET sets 2 --add-set
+SET sets 2 --del-set
+SET sets 2 --map-set
 SET says 1 --timeout
 SET says 0 --exist
 SET says 0 --map-mark
@@ -314,7 +314,7 @@ realm text
 recent place
 rpfilter text
 sctp text sctp 132
-set place
+set set
 socket text
 statistic place
 string set
@@ -335,7 +335,7 @@ LED passes
 MARK passes mark
 NFLOG passes
 RATEEST passes
-SET passes set mark
+SET passes mark
 TCPMSS passes tcpmss length u32 string
 TEE passes
 TRACE passes

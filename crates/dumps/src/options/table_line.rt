@@ -9,7 +9,7 @@ use crate::options::row::{Kind, Lasting, Role};
 use fields::read_number_to;
 
 // Each role, and each kind.
-const ROLES: [Role; 11] = [
+const ROLES: [Role; 14] = [
     Role::Own,
     Role::Ports,
     Role::IcmpType,
@@ -21,6 +21,9 @@ const ROLES: [Role; 11] = [
     Role::Holds,
     Role::Says,
     Role::Turns,
+    Role::AsksOf,
+    Role::Counts,
+    Role::Sets,
 ];
 
 const KINDS: [Kind; 9] = [
@@ -51,6 +54,9 @@ fn role_word(role: Role) -> &'static [u8]
         Role::Holds => b"holds",
         Role::Says => b"says",
         Role::Turns => b"turns",
+        Role::AsksOf => b"asks-of",
+        Role::Counts => b"counts",
+        Role::Sets => b"sets",
     }
 }
 

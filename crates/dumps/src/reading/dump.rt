@@ -100,7 +100,7 @@ impl<'a> Reading<'a> {
     ghost use Rattle.std.specs.Prelude.{◌≡◌, true, Some, None, OnOk, IfErr, IfSome};
     ghost use Rattle.std.specs.List.{list_any};
     ghost use Rattle.fields.specs.text.WordSlice.{words_in};
-    ghost use Rattle.dumps.specs.Foreign.{needs_some, rules_in, sets_in};
+    ghost use Rattle.dumps.specs.Foreign.{needs_some, rules_in};
     ghost use Rattle.dumps.specs.SectionLines.{rule_line, other_line};
     ghost use Rattle.dumps.specs.Views.{rule_line_in, other_line_in, read_in, refused_in, table_in};
     ghost use Rattle.dumps.specs.Reading.{nothing_read, kept, noted, opened, opened_by, refused_name, refused_move, moved_by, other_refusal, IsMovedWith, IsRuleTaken, IsRuleRead, IsOtherRead, IsFilterRead, IsReadAt, IsLineRead, IsRuleRefused, IsFilterRefused, IsRefusedAt, IsLineRefused};
@@ -190,13 +190,14 @@ impl<'a> Reading<'a> {
         };
         let conditions = apart.conditions(self.alloc, &self.table)?;
         let mut needs = all_needed(self.alloc, conditions.as_slice())?;
-        self.foreign.note_target(&self.table, &apart)?;
         append_head(&mut self.text, line)?;
         apart.append_own(&self.table, &mut self.text)?;
         append_known(&mut self.text, self.table.known, needs.as_slice())?;
         end_line(&mut self.text)?;
         keep_unknown(&mut needs, self.table.known);
-        self.foreign.add(line.chain, needs)?;
+        let sets = apart.sets(self.alloc, &self.table)?;
+        let ends = apart.ends_each(&self.table);
+        self.foreign.add(line.chain, needs, sets, ends)?;
         Ok(())
     }
 
@@ -352,7 +353,6 @@ impl<'a> Reading<'a> {
         ensures still { NeededRulesStandStill }
         ensures text { result.text.items ≡ (read_in self.entry).text }
         ensures rules { rules_in result.foreign ≡ (read_in self.entry).rules }
-        ensures sets { sets_in result.foreign ≡ (read_in self.entry).sets }
     {
         Whole {
             text: self.text,

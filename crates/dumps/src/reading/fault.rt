@@ -9,7 +9,7 @@ use std::alloc::{AllocError, Global};
 use std::fmt;
 use thiserror::Error;
 
-/// A word of a line.
+/// A word of a line, or the words of a condition.
 #[derive(Debug, PartialEq, Eq, Drop)]
 pub struct LineWord {
     bytes: Vec<u8>,
@@ -19,7 +19,12 @@ impl LineWord {
     ghost use Rattle.std.specs.Prelude.{◌≡◌, IfOk};
     ghost use Rattle.dumps.specs.Views.{word_in};
 
-    pub(crate) fn of(alloc: Global, word: &[u8]) -> Result<LineWord, AllocError>
+    /// The word of these bytes.
+    ///
+    /// # Errors
+    ///
+    /// `AllocError` where memory was refused.
+    pub fn of(alloc: Global, word: &[u8]) -> Result<LineWord, AllocError>
         ensures { IfOk result (λ copy. word_in copy ≡ word.now) }
     {
         Ok(LineWord {

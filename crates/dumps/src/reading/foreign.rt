@@ -1,15 +1,15 @@
 //! What the rules of a dump need beyond what the program reads.
 ghost use Rattle.std.specs.Prelude.{◌≡◌, ◌++◌, ◌∷◌, [], map, not, OnOk, IfOk};
 ghost use Rattle.std.specs.List.{list_any};
-ghost use Rattle.dumps.specs.Foreign.{needed, needed_in, needs_in, rule_in, rules_in, sets_in, is_in, needs_some, words_for, known_words, is_unknown, unknown_needs, is_named, with_name, with_names, set_by, kept_names};
+ghost use Rattle.dumps.specs.Foreign.{needed, needed_in, needs_in, rule_in, rules_in, sets_in, is_in, needs_some, words_for, known_words, is_ended, is_unknown, unknown_needs, is_named, kept_names, written};
 ghost use Rattle.dumps.specs.Own.{line_of};
-ghost use Rattle.dumps.specs.Views.{condition_in, conditions_in, texts_in, all_known_in, table_in, parts_in};
+ghost use Rattle.dumps.specs.Views.{condition_in, conditions_in, texts_in, all_known_in};
 
-use crate::apart::Apart;
 use crate::apart::condition::Condition;
 use crate::apart::own_line::append_word;
+use crate::apart::target::named_thing;
 use crate::options::row::Lasting;
-use crate::options::table::{KnownCondition, OptionTable, known_of};
+use crate::options::table::{KnownCondition, known_of};
 use std::alloc::{AllocError, Global};
 
 /// A condition that a rule needs, by its text.
@@ -17,6 +17,8 @@ use std::alloc::{AllocError, Global};
 pub(crate) struct NeededText {
     // The name of its match.
     pub(crate) name: Vec<u8>,
+    // What it asks: a thing by its name, behind a blank, or what its match asks at all.
+    pub(crate) asks: Vec<u8>,
     // Its words with the name, each quoted if it must be, with blanks between.
     pub(crate) text: Vec<u8>,
     pub(crate) lasting: Lasting,
@@ -28,15 +30,17 @@ pub(crate) struct NeededText {
 pub(crate) struct ForeignRule {
     pub(crate) chain: Vec<u8>,
     pub(crate) needs: Vec<NeededText>,
+    // What its target sets.
+    pub(crate) sets: Vec<Vec<u8>>,
+    // Whether it ends the walk of each packet.
+    pub(crate) ends: bool,
 }
 
-/// What the rules of the section `filter` of a dump need beyond what the program reads, rule by rule, and which matches ask what
-/// targets of the section set.
+/// What the rules of the section `filter` of a dump need beyond what the program reads, rule by rule, and what their targets set.
 #[derive(Drop)]
 pub struct Foreign {
     alloc: Global,
     pub(crate) rules: Vec<ForeignRule>,
-    pub(crate) set: Vec<Vec<u8>>,
 }
 
 // Appends words, each after a blank.
@@ -58,6 +62,16 @@ fn text_of(alloc: Global, condition: &Condition<'_>) -> Result<Vec<u8>, AllocErr
     Ok(text)
 }
 
+// What a condition asks.
+fn asks_of(alloc: Global, condition: &Condition<'_>) -> Result<Vec<u8>, AllocError>
+    ensures { IfOk result (λ asks. asks.items ≡ (condition_in condition.now).asks) }
+{
+    match condition.thing {
+        Some(thing) => named_thing(alloc, thing),
+        None => condition.name.to_vec(alloc),
+    }
+}
+
 // The condition by its text.
 fn needed(alloc: Global, condition: &Condition<'_>) -> Result<NeededText, AllocError>
     ensures { IfOk result (λ made. needed_in made ≡ needed (condition_in condition.now)) }
@@ -66,6 +80,7 @@ fn needed(alloc: Global, condition: &Condition<'_>) -> Result<NeededText, AllocE
     let text = text_of(alloc, condition)?;
     Ok(NeededText {
         name,
+        asks: asks_of(alloc, condition)?,
         text,
         lasting: condition.lasting,
         inverted: condition.inverted,
@@ -165,6 +180,44 @@ fn one_in(rules: &[ForeignRule], chain: &[u8]) -> bool
     false
 }
 
+// Whether the first of some rules that is in a chain ends the walk of each packet.
+fn is_ended(chain: &[u8], rules: &[ForeignRule]) -> bool
+    ensures { result ≡ is_ended chain.now (map rule_in rules.now) }
+{
+    for rule in rules {
+        if rule.chain.as_slice() == chain {
+            return rule.ends;
+        }
+    }
+    false
+}
+
+// Adds copies of names.
+fn add_names(alloc: Global, set: &mut Vec<Vec<u8>>, names: &[Vec<u8>]) -> Result<(), AllocError>
+    ensures { IfOk result (λ _. kept_names set.new.items ≡ kept_names set.old.items ++ kept_names names.now) }
+{
+    for name in names {
+        set.push(name.as_slice().to_vec(alloc)?)?;
+    }
+    Ok(())
+}
+
+// Adds what targets of some rules set while a packet walks: the next rule of the chain doesn't end its walk.
+fn add_written(
+    alloc: Global,
+    names: &mut Vec<Vec<u8>>,
+    rules: &[ForeignRule],
+) -> Result<(), AllocError>
+    ensures { IfOk result (λ _. kept_names names.new.items ≡ kept_names names.old.items ++ written (map rule_in rules.now)) }
+{
+    for (place, rule) in rules.iter().enumerate() {
+        if !is_ended(rule.chain.as_slice(), &rules[place + 1..]) {
+            add_names(alloc, names, rule.sets.as_slice())?;
+        }
+    }
+    Ok(())
+}
+
 // Whether a name is among some.
 pub(crate) fn is_named(names: &[Vec<u8>], name: &[u8]) -> bool
     ensures { result ≡ is_named (kept_names names.now) name.now }
@@ -180,65 +233,44 @@ pub(crate) fn is_named(names: &[Vec<u8>], name: &[u8]) -> bool
 impl Foreign {
     // No rule so far.
     pub(crate) fn new(alloc: Global) -> Foreign
-        ensures rules { rules_in result ≡ [] }
-        ensures sets { sets_in result ≡ [] }
+        ensures { rules_in result ≡ [] }
     {
         Foreign {
             alloc,
             rules: Vec::new(alloc),
-            set: Vec::new(alloc),
         }
     }
 
-    // Adds a rule, the last of its chain, with what it needs.
-    pub(crate) fn add(&mut self, chain: &[u8], needs: Vec<NeededText>) -> Result<(), AllocError>
-        ensures added { OnOk result (rules_in self.new ≡ rules_in self.old
-            ++ record { chain = chain.now; needs = needs_in needs.items } ∷ []) }
-        ensures sets { sets_in self.new ≡ sets_in self.old }
+    // Adds a rule, the last of its chain.
+    pub(crate) fn add(
+        &mut self,
+        chain: &[u8],
+        needs: Vec<NeededText>,
+        sets: Vec<Vec<u8>>,
+        ends: bool,
+    ) -> Result<(), AllocError>
+        ensures { OnOk result (rules_in self.new ≡ rules_in self.old
+            ++ record { chain = chain.now; needs = needs_in needs.items; sets = kept_names sets.items; ends = ends } ∷ []) }
     {
         let chain = chain.to_vec(self.alloc)?;
-        self.rules.push(ForeignRule { chain, needs })?;
+        self.rules.push(ForeignRule {
+            chain,
+            needs,
+            sets,
+            ends,
+        })?;
         Ok(())
     }
 
-    // Notes that a target sets what a match asks.
-    fn note_one(&mut self, name: &[u8]) -> Result<(), AllocError>
-        ensures noted { OnOk result (sets_in self.new ≡ with_name (sets_in self.old) name.now) }
-        ensures rules { rules_in self.new ≡ rules_in self.old }
-    {
-        if is_named(self.set.as_slice(), name) {
-            return Ok(());
-        }
-        let name = name.to_vec(self.alloc)?;
-        self.set.push(name)?;
-        Ok(())
-    }
-
-    // Notes that a target sets what these matches ask.
-    fn note_set(&mut self, names: &[&[u8]]) -> Result<(), AllocError>
-        ensures noted { OnOk result (sets_in self.new ≡ with_names (sets_in self.old) (texts_in names.now)) }
-        ensures rules { rules_in self.new ≡ rules_in self.old }
-    {
-        for name in names {
-            self.note_one(*name)?;
-        }
-        Ok(())
-    }
-
-    // Notes what the target of a line sets.
-    pub(crate) fn note_target(
-        &mut self,
-        table: &OptionTable<'_>,
-        line: &Apart<'_>,
+    // Adds what targets set while a packet walks.
+    pub(crate) fn add_written(
+        &self,
+        alloc: Global,
+        names: &mut Vec<Vec<u8>>,
     ) -> Result<(), AllocError>
-        ensures noted { OnOk result (sets_in self.new
-            ≡ with_names (sets_in self.old) (set_by (table_in table.now) (parts_in line.now))) }
-        ensures rules { rules_in self.new ≡ rules_in self.old }
+        ensures { IfOk result (λ _. kept_names names.new.items ≡ kept_names names.old.items ++ sets_in self.now) }
     {
-        match line.target(table) {
-            None => return Ok(()),
-            Some(row) => return self.note_set(row.sets),
-        }
+        add_written(alloc, names, self.rules.as_slice())
     }
 
     /// Whether no rule needs anything.

@@ -12,7 +12,8 @@ fn sum_of(counts: &[MatchCount]) -> usize {
     sum
 }
 
-/// Writes how many conditions are open, after some bytes: `49 conditions open: limit 47, helper 2`. There is no such line where none is.
+/// Writes how many conditions are open, after some bytes: `49 conditions open: limit 47, helper 2`. There is no such line where none is. Where some are of
+/// sets, a line with the premise that these stay as they are stands below it.
 ///
 /// # Errors
 ///
@@ -37,6 +38,9 @@ pub(crate) fn put_open<W: Write>(
         let parted = if place > 0 { b", ".as_slice() } else { b" " };
         output.put_all(&[parted, open.match_name(entry.condition)])?;
         put_number(b" ", entry.count, b"", output)?;
+    }
+    if open.has_things() {
+        output.put_all(&[b"\n", before, b"sets stay as they are while a packet walks"])?;
     }
     output.put(b"\n")
 }

@@ -191,6 +191,26 @@ impl OpenConditions {
         false
     }
 
+    /// Whether some condition that is open is of a thing which may change while a packet walks, as a set of addresses is, and not of a place.
+    pub fn has_things(&self) -> bool {
+        for condition in 0..self.len() {
+            if self.is_open(condition) && self.conditions.is_of_thing(condition) {
+                return true;
+            }
+        }
+        false
+    }
+
+    /// The first condition that is open of which a target sets, while a packet walks, what it asks.
+    pub(crate) fn first_set(&self) -> Option<usize> {
+        for condition in 0..self.len() {
+            if self.is_open(condition) && self.conditions.is_set(condition) {
+                return Some(condition);
+            }
+        }
+        None
+    }
+
     /// The answers of `--when`.
     ///
     /// # Errors
