@@ -31,8 +31,6 @@ pub enum Coming {
 /// Whether a packet that a line writes comes to rule `step.number` of the chain at a place, both of which have to be there, and under which answers:
 /// few, as those of `dead_under`. Rules count from 1.
 ///
-/// It is what `life_under` asks, of this packet alone. So it is known where many conditions part the packet's walks, too, which `walks` lists one by one.
-///
 /// # Errors
 ///
 /// `AllocError` where memory was refused.

@@ -1,5 +1,5 @@
 //! A walk of a packet that misses a rule.
-ghost use Rattle.std.specs.Prelude.{◌≡◌, false, Any, Contains, IfOk, IsTrue};
+ghost use Rattle.std.specs.Prelude.{◌≡◌, false, Any, Contains, IfOk, IsTrue, OnOk};
 ghost use Rattle.table.specs.walk.Walk.{walk};
 ghost use Rattle.questions.specs.Ends.{IsRule};
 ghost use Rattle.questions.specs.Foreign.{Agrees, Assignment};
@@ -14,10 +14,10 @@ use crate::asked::walks::box_of;
 use crate::boxes::area::Area;
 use crate::boxes::candidates::Candidates;
 use crate::boxes::matched::has;
+use crate::foreign::answers::Answers;
 use crate::foreign::need::{Need, Standing, known_of};
 use crate::foreign::subject::Subject;
 use crate::seeking::before::Approach;
-use crate::seeking::steering::failing;
 use crate::walking::ahead::advanced;
 use crate::walking::engine::{LIMIT, begin, policy_at, step};
 use crate::walking::scope::Scope;
@@ -25,9 +25,6 @@ use crate::walking::task::{Leaf, Task};
 use fields::Packet;
 use std::alloc::{AllocError, Global};
 use table::Step;
-
-// The steps of such a walk.
-const STEPS: usize = 4096;
 
 // Whether a rule is on the trail of a leaf, and all holds that it needs where the leaf's answers are right.
 pub(crate) fn is_surely_on(needs: &[Need], leaf: &Leaf, step: Step) -> bool
@@ -54,25 +51,35 @@ fn is_newest_off(subject: &Subject<'_>, found: &[Leaf], packet: &Packet, step: S
     }
 }
 
-// A task whose next rule hangs on a condition, with an answer by which that rule doesn't match.
-fn settled(subject: &Subject<'_>, mut task: Task) -> Result<Task, AllocError>
+// Answers the needs that are open: all hold, or none.
+fn settle(answers: &mut Answers, needs: &[Need], hold: bool) -> Result<(), AllocError>
+    ensures { OnOk result ((a : Assignment) → Agrees a answers.new → Agrees a answers.old) }
+{
+    for need in needs {
+        let _is_new = answers.give(need.condition, need.inverted != hold)?;
+    }
+    Ok(())
+}
+
+// A task whose next rule hangs on conditions, with answers to them.
+fn settled(subject: &Subject<'_>, mut task: Task, hold: bool) -> Result<Task, AllocError>
     ensures { IfOk result (IsSettled task) }
 {
     if let Some(at) = task.rests.last() {
         let needs = subject.needs.at(at.chain, at.passed);
-        if let Standing::Open(condition) = known_of(needs, &task.scope.answers) {
-            let fails = failing(needs, condition);
-            let _is_new = task.scope.answers.give(condition, fails)?;
+        if matches!(known_of(needs, &task.scope.answers), Standing::Open(_)) {
+            settle(&mut task.scope.answers, needs, hold)?;
         }
     }
     Ok(task)
 }
 
-// Whether a walk of a packet from a scope, of so many steps at most, misses the rule: the one on which each rule that hangs on a condition doesn't match.
+// Whether a walk of a packet from a scope, of so many steps at most, misses the rule: the one on which rules that hang on conditions match, or don't.
 fn is_missed_from(
     alloc: Global,
     approach: &Approach<'_, '_, '_>,
     start: Scope,
+    hold: bool,
 ) -> Result<bool, AllocError>
     requires step { IsRule (table_of approach.now.subject) approach.now.wanted }
     requires can { IsAtHook approach.now.packet.now }
@@ -85,14 +92,14 @@ fn is_missed_from(
     let policy = policy_at(&subject.boxed.table, packet.hook());
     let mut candidates = Candidates::all(alloc, &start.area)?;
     let mut front = begin(alloc, &subject, packet.hook(), start)?;
-    for _ in 0..STEPS {
+    for _ in 0..LIMIT {
         let Some(task) = front.tasks.pop() else {
             return Ok(false);
         };
         if task.trail.len() >= LIMIT {
             return Ok(false);
         }
-        let next = settled(&subject, advanced(&subject, &mut candidates, task)?)?;
+        let next = settled(&subject, advanced(&subject, &mut candidates, task)?, hold)?;
         step(&subject, policy, &mut front, next)?;
         if is_newest_off(&subject, front.leaves.as_slice(), packet, approach.wanted) {
             return Ok(true);
@@ -108,8 +115,13 @@ pub(crate) fn is_off(alloc: Global, approach: &Approach<'_, '_, '_>) -> Result<b
     ensures { IfOk result (λ is. IsTrue is → (a : Assignment) × Agrees a approach.now.answers.now
         × (Contains (walk (answered approach.now.subject a) approach.now.packet.now).trail (entry_of (table_of approach.now.subject).chains approach.now.wanted) → ⊥)) }
 {
-    let answers = approach.answers.copy(alloc)?;
     let whole = Area::at_hook(alloc, approach.packet.hook())?;
-    let area = box_of(alloc, &whole, approach.packet)?;
-    is_missed_from(alloc, approach, Scope { area, answers })
+    for hold in [false, true] {
+        let answers = approach.answers.copy(alloc)?;
+        let area = box_of(alloc, &whole, approach.packet)?;
+        if is_missed_from(alloc, approach, Scope { area, answers }, hold)? {
+            return Ok(true);
+        }
+    }
+    Ok(false)
 }

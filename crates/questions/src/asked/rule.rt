@@ -98,9 +98,6 @@ pub(crate) fn life_at(subject: &Subject<'_>, course: Course, step: Step) -> Resu
 /// A step of a packet's walks is also one box that parts by a condition (`leaves_under`). A packet is offered if it is seen to come to the rule
 /// whatever else holds, or if its walks, for all assignments that give the answers, are known to have the rule and to end with `budget` steps.
 ///
-/// Where the rule is dead, no walk of a packet that it would match is too long, of those at hooks from which jumps and gotos lead to its chain. So no
-/// packet would come to the rule either if a walk could have more than 65,536 rules.
-///
 /// # Errors
 ///
 /// `AllocError` where memory was refused.

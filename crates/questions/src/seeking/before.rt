@@ -2,6 +2,7 @@
 use crate::foreign::answers::Answers;
 use crate::foreign::need::{Standing, known_of};
 use crate::foreign::subject::Subject;
+use crate::seeking::calls::place_named;
 use crate::seeking::seen::Seen;
 use crate::walking::engine::LIMIT;
 use classify::CandidateRows;
@@ -110,17 +111,17 @@ impl<'s> Before<'s> {
 
     // What a rule that matches makes of it in its chain.
     fn follow(&mut self, table: &Table, rule: &Rule, own: usize, after: Turn) -> Turn {
-        let (is_jump, entered) = match rule.target() {
+        let is_jump = match rule.target() {
             Some(Target::Accept | Target::Drop | Target::Reject(_)) => return Turn::Ends,
             Some(Target::Log) | None => return Turn::On,
             Some(Target::Return) => {
                 put_at(&mut self.back, own, 1);
                 return after;
             }
-            Some(Target::Jump(name)) => (true, table.index_of(name.bytes())),
-            Some(Target::Goto(name)) => (false, table.index_of(name.bytes())),
+            Some(Target::Jump(_)) => true,
+            Some(Target::Goto(_)) => false,
         };
-        match entered {
+        match place_named(table, rule.target()) {
             Some(place) => self.enter(own, place, is_jump, after),
             None => Turn::On,
         }

@@ -3,6 +3,7 @@ use crate::foreign::answers::Answers;
 use crate::foreign::need::{Need, Standing, known_of};
 use crate::foreign::subject::Subject;
 use crate::seeking::before::{Approach, Before, rows_at};
+use crate::seeking::calls::place_named;
 use crate::seeking::seen::Seen;
 use crate::seeking::way::Way;
 use crate::walking::engine::LIMIT;
@@ -28,8 +29,7 @@ enum Turn {
     Strays,
 }
 
-// What is left of a chain behind so many of its rules, which rules there have the packet in their boxes, and how many of the rules that led off
-// the way lead there.
+// What is left of a chain behind so many of its rules, those that have the packet in their boxes, and how many rules off the way led there.
 #[derive(Drop)]
 struct Rest<'s> {
     chain: usize,
@@ -38,8 +38,7 @@ struct Rest<'s> {
     led: usize,
 }
 
-// A packet's walk under way to a rule: what is left of its chains, the rules that led off the way into the present one, how many places of the
-// way it took, the answers, and where the packet may be in the chains that it passed by.
+// A packet's walk to a rule: what is left of its chains, the rules that led off the way, how many of its places it took, and where it may have been.
 #[derive(Drop)]
 struct Walker<'s, 'p> {
     subject: Subject<'s>,
@@ -53,7 +52,7 @@ struct Walker<'s, 'p> {
 }
 
 // What an open need of a condition has to be answered, so that it fails.
-pub(crate) fn failing(needs: &[Need], condition: usize) -> bool {
+fn failing(needs: &[Need], condition: usize) -> bool {
     needs
         .iter()
         .any(|need| need.condition == condition && need.inverted)
@@ -129,15 +128,8 @@ impl<'s, 'p> Walker<'s, 'p> {
         if matches!(known, Standing::Fails) {
             return Ok(Turn::On);
         }
-        let subject = self.subject;
-        let target = seen.rule.target();
-        let place = match &target {
-            Some(Target::Jump(name) | Target::Goto(name)) => {
-                subject.boxed.table.index_of(name.bytes())
-            }
-            _ => None,
-        };
-        let is_passed = match &target {
+        let place = place_named(&self.subject.boxed.table, seen.rule.target());
+        let is_passed = match seen.rule.target() {
             Some(Target::Log) | None => true,
             Some(Target::Jump(_)) => self.passes_by(by, place)?,
             _ => false,
@@ -146,7 +138,7 @@ impl<'s, 'p> Walker<'s, 'p> {
             return Ok(Turn::On);
         }
         let is_on_way = self.path.is_empty();
-        match target {
+        match seen.rule.target() {
             Some(Target::Jump(_)) => self.enter(by, place),
             Some(Target::Goto(_)) if !is_on_way || self.is_next(by) => {
                 let _left = self.rests.pop();
