@@ -49,7 +49,7 @@ def unknown_match(name):
 EXTENSIONS = [extension_of(row) for row in rows(TABLE)]
 RULE, COMMAND = EXTENSIONS[:2]
 MATCHES = {row.name: row for row in EXTENSIONS if row.kind == "match"}
-TARGETS = {row.name: row for row in EXTENSIONS if row.kind in ("ends", "passes", "decides")}
+TARGETS = {row.name: row for row in EXTENSIONS if row.kind in ("ends", "passes", "decides", "may-decide")}
 # The matches that `-p` starts by itself where one of their options stands, by the number of the protocol.
 OF_PROTOCOL = {int(row.protocols[-1]): row.name for row in MATCHES.values() if row.protocols}
 # The protocols of multiport, by their numbers.

@@ -321,7 +321,7 @@ class Fitting:
     def assume_target(self, number, edits, never):
         """What a target does that the program doesn't know."""
         target, name = edits.rule.target, edits.rule.target.extension.name
-        if target.extension.kind != "decides" or name in self.chains:
+        if target.extension.kind not in ("decides", "may-decide") or name in self.chains:
             return
         found = assumed(self.assumptions, Condition(name, [], False))
         text = edits.rule.text_of(target)

@@ -27,7 +27,7 @@ def verdict_object(verdict):
     """A verdict. What it leaves open has no key."""
     found = {"name": text(verdict.name)}
     if verdict.kind:
-        found["type"] = text(verdict.kind)
+        found["type" if verdict.name == b"REJECT" else "words"] = text(verdict.kind)
     if verdict.by:
         found["by"] = step_object(verdict.by) if isinstance(verdict.by, tuple) else text(verdict.by)
     return found

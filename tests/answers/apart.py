@@ -79,6 +79,9 @@ def printed(lines, conditions):
             needs = [(b"!" if each.inverted else b"") + b"%d" % conditions.number(each, chain, rule, counts) for each in line.conditions]
             if needs:
                 yield b" ".join([b"#", chain, b"%d" % rule, *needs])
+        for rule, line in enumerate((line for each, line in lines if each == chain), 1):
+            if line.verdict:
+                yield b" ".join([b"#", chain, b"%d" % rule, b"-j", *map(quoted, line.verdict)])
 
 
 def due(*dumps):
@@ -103,7 +106,7 @@ def expect(program, *dumps):
 
 def each_option(draw):
     """A line for each match and target, and for each name of each of its options and those of a rule."""
-    for row in [*extensions.MATCHES.values(), *(row for row in extensions.TARGETS.values() if row.kind != "decides"), extensions.RULE]:
+    for row in [*extensions.MATCHES.values(), *extensions.TARGETS.values(), extensions.RULE]:
         begun = [option.names[0] for option in row.options if option.names[0] in (b"-m", b"-j", b"-g")]
         for option in [None, *row.options]:
             for name in option.names if option and option.names[0] not in begun else [None]:

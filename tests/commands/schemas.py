@@ -12,7 +12,7 @@ import os
 import pytest
 
 from tests import ROOT
-from tests.programs.audited.documents import schema_rows
+from tests.programs.audited.written import schema_rows
 from tests.shared import read
 from tests.shared.run_files import runs_in
 

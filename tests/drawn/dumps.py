@@ -10,8 +10,8 @@ Condition = collections.namedtuple("Condition", "name asks words inverted lastin
 # A part: whose its option is, the option, the name by which it is written, its values, whether `!` stands before it, and the words that are
 # due where the program reads it.
 Part = collections.namedtuple("Part", "owner option name values inverted own")
-# A line: its words, those that are due, its conditions, what its target sets, and whether it ends the walk of each packet.
-Line = collections.namedtuple("Line", "words own conditions sets ends")
+# A line: its words, those that are due, its conditions, what its target sets, whether it ends the walk of each packet, and the words of its own verdict.
+Line = collections.namedtuple("Line", "words own conditions sets ends verdict")
 
 # Values that stand anywhere, some of them like options.
 WORDS = (b"7", b"eth0", b"3/min", b"LOCAL", b"a b", b"-m", b"--limit", b"!", b"", b'say "x"',
@@ -25,6 +25,8 @@ PROTOCOLS = ((b"tcp", b"tcp"), (b"6", b"6"), (b"udp", b"udp"), (b"17", b"17"), (
              (b"esp", b"esp"), (b"ah", b"ah"), (b"all", b"all"), (b"gre", b"gre"), (b"ipencap", None), (b"TCP", None))
 READ = {"port": PORTS, "ports": PORTS, "type": TYPES, "protocol": PROTOCOLS}
 BEGINS = (b"-m", b"-j", b"-g")
+# The kinds of targets whose verdict is their own.
+DECIDING = ("decides", "may-decide")
 
 
 class Writer:
@@ -77,9 +79,8 @@ class Writer:
         self.begin(extension, extensions.exact(b"-m", [extensions.RULE])[1], extension.name)
 
     def target(self, extension=None):
-        """A target that doesn't decide, or a chain."""
-        rows = [row for row in extensions.TARGETS.values() if row.kind != "decides"]
-        extension = extension or self.draw.choice([*rows, None])
+        """A target, or a chain."""
+        extension = extension or self.draw.choice([*extensions.TARGETS.values(), None])
         way = b"-g" if extension is None and self.draw.random() < 0.3 else b"-j"
         self.begin(extension, extensions.exact(way, [extensions.RULE])[1], extension.name if extension else b"chain")
 
@@ -90,8 +91,16 @@ class Writer:
         target = next(filter(None, map(extensions.TARGETS.get, reversed(named))), None)
         sets = {*(target.sets if target else ()), *things_of(part for part in self.parts if part.option.place == ".")}
         bare = all(part.option.names[0] == b"-j" or part.owner is target for part in self.parts)
-        ends = target is not None and target.kind == "ends" and target.name != b"RETURN" and bare
-        return Line(words, own_words(self.parts), conditions, sets, ends)
+        ends = target is not None and target.kind in ("ends", "decides") and target.name != b"RETURN" and bare
+        verdict = [target.name, *words_of(target, self.parts)] if target and target.kind in DECIDING else []
+        if target and target.kind == "may-decide":
+            conditions.append(Condition(target.name, target.name, verdict[1:], False, "place"))
+        return Line(words, own_words(self.parts), conditions, sets, ends, verdict)
+
+
+def words_of(owner, parts):
+    """The words of an owner's options."""
+    return [word for part in parts if part.owner is owner for word in [b"!"] * part.inverted + [part.name, *part.values]]
 
 
 def things_of(parts):
@@ -122,11 +131,17 @@ def begins_own(at, parts):
     return part.option.names[0] == b"-g" or not target or target.kind != "passes" or extensions.is_known(target)
 
 
+def given(part):
+    """The value of `-m`, `-j` or `-g`: in place of a target with a verdict of its own stands DROP."""
+    target = part.option.names[0] == b"-j" and extensions.TARGETS.get(part.values[0])
+    return [b"DROP"] if target and target.kind in DECIDING else part.values
+
+
 def own_words(parts):
     found = []
     for at, part in enumerate(parts):
         if part.owner is None and begins_own(at, parts):
-            found += [part.name, *part.values]
+            found += [part.name, *given(part)]
         elif part.owner is not None and part.own is not None:
             found += [b"!"] * part.inverted + [part.name, *part.own]
     return found

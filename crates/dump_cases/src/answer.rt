@@ -76,6 +76,25 @@ fn whole<W: Write>(
     Ok(reading.finish())
 }
 
+/// Puts the verdict of its own of a rule, if it has one.
+fn put_verdict<W: Write>(
+    alloc: Global,
+    output: &mut Tap<W>,
+    chain: &[u8],
+    rule: usize,
+    verdict: Option<&[u8]>,
+) -> Result<(), Trouble> {
+    let Some(verdict) = verdict else {
+        return Ok(());
+    };
+    put(output, b"# ")?;
+    put(output, chain)?;
+    put_number(alloc, output, b" ", rule)?;
+    put(output, b" -j ")?;
+    put(output, verdict)?;
+    put(output, b"\n")
+}
+
 /// Puts the needs of a rule, if it has some.
 fn put_needs<W: Write>(
     alloc: Global,
@@ -97,7 +116,7 @@ fn put_needs<W: Write>(
     put(output, b"\n")
 }
 
-/// Puts the needs of the rules of a chain.
+/// Puts the needs of the rules of a chain, and behind them their verdicts of their own.
 fn put_chain<W: Write>(
     alloc: Global,
     output: &mut Tap<W>,
@@ -114,6 +133,10 @@ fn put_chain<W: Write>(
             place.saturating_add(1),
             needs.as_slice(),
         )?;
+    }
+    let verdicts = foreign.verdicts_of_chain(alloc, chain)?;
+    for (place, verdict) in verdicts.iter().enumerate() {
+        put_verdict(alloc, output, chain, place.saturating_add(1), *verdict)?;
     }
     Ok(())
 }

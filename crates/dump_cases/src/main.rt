@@ -1,9 +1,13 @@
 //! The program `dump_cases`: what is made of a dump.
 //!
-//! Standard input has a dump, or two, of which the second begins behind a line `# next`. For each the program prints its own text;
-//! then for each rule that needs something a line `# CHAIN NUMBER` with the numbers of the conditions, and `!` before one that must not
-//! hold. At the end a line for each condition: its number, the name of its match, its words, and, where it is told by its place,
-//! the chain and the number of the rule. A word of the program is an option to be added, as `MATCH OPTION N`.
+//! Standard input has a dump, or two, of which the second begins behind a line `# next`. For each the program prints its own text, and then, chain
+//! by chain:
+//!
+//! - a line `# CHAIN NUMBER` for each rule that needs something, with the numbers of the conditions, and `!` before one that must not hold;
+//! - a line `# CHAIN NUMBER -j VERDICT` for each rule that has a verdict of its own.
+//!
+//! At the end a line for each condition: its number, the name of its match, its words, and, where it is told by its place, the chain and the
+//! number of the rule. A word of the program is an option to be added, as `MATCH OPTION N`.
 //!
 //! Where a line is refused it prints `line N: FAULT` in place of the dump, and the status is 1. It is 4 where memory was refused, and
 //! 2 where the input can't be read or the words are refused.

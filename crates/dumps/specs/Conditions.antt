@@ -2,7 +2,7 @@
 use Rattle.std.specs.Prelude.{◌≡◌, ◌≢◌, All, Contains, ℕ, Bool, true, false, not, ◌&&◌, ◌||◌, List, [], ◌∷◌, ◌++◌, length, flat_map, filter, if◌then◌else◌, codes, Option, Some, None, ◌==◌}
 use Rattle.std.specs.List.{list_any}
 use Rattle.dumps.specs.Options.{Row, Extension, Table, extension_of, is_role, is_match}
-use Rattle.dumps.specs.Parts.{Part, spelled_words, value_of, IsTakenApart}
+use Rattle.dumps.specs.Parts.{Part, spelled_words, target_of, value_of, IsTakenApart}
 use Rattle.dumps.specs.Own.{is_read, is_of, begins, up_to_next}
 use Rattle.dumps.specs.declared.options.row.Role.TheVariants as role
 use Rattle.dumps.specs.declared.options.row.Kind.{Kind}
@@ -100,7 +100,7 @@ asked_as name parts (kind.Foreign lasts) = unless_always name lasts parts
 asked_as name parts kind.Ends = []
 asked_as name parts kind.Logs = []
 asked_as name parts kind.Passes = []
-asked_as name parts kind.Decides = []
+asked_as name parts (kind.Decides all) = []
 
 -- the same where the table has a match or target of this name; else nothing is asked
 abbrev pub asked_of : List ℕ → List Part → Option Extension → List Condition
@@ -147,9 +147,23 @@ conditions_after table before [] = []
 conditions_after table before (part ∷ parts) =
     asked_first table before (part ∷ parts) ++ conditions_after table (before ++ part ∷ []) parts
 
--- the conditions of a line
+-- a target that decides some packets alone, and whose others go on with the next rule: that it takes one is a condition of its place
+abbrev pub taken_as : List ℕ → List Part → Kind → List Condition
+taken_as name parts (kind.Decides all) = if all then [] else condition_of name lasting.Place (filter (is_of name) parts) ∷ []
+taken_as name parts (kind.Known alone) = []
+taken_as name parts (kind.Foreign lasts) = []
+taken_as name parts kind.Ends = []
+taken_as name parts kind.Logs = []
+taken_as name parts kind.Passes = []
+
+-- the same of the target of some parts, if they have one
+abbrev pub taken_by : List Part → Option Extension → List Condition
+taken_by parts None = []
+taken_by parts (Some row) = taken_as row.name parts row.kind
+
+-- the conditions of a line: those of its matches, and that of its target
 abbrev pub conditions : Table → List Part → List Condition
-conditions table parts = conditions_after table [] parts
+conditions table parts = conditions_after table [] parts ++ taken_by parts (target_of table parts)
 
 -- of some options those that begin a match or give a protocol are the rule's own
 abbrev pub AreOwnStarts : List Row → Type 0
@@ -166,7 +180,7 @@ lasting_of (kind.Foreign lasts) = Some lasts
 lasting_of kind.Ends = None
 lasting_of kind.Logs = None
 lasting_of kind.Passes = None
-lasting_of kind.Decides = None
+lasting_of (kind.Decides all) = None
 
 -- What becomes of an option that the program doesn't read, by the match or target that has it and the options of it that stand together:
 -- these ask a condition of the line; or the only one of them that asks always holds, and no `!` stands before it; or it says what a target

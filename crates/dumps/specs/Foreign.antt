@@ -1,12 +1,13 @@
 -- What the rules of a dump need beyond what the program reads.
-use Rattle.std.specs.Prelude.{ℕ, Bool, false, not, ◌&&◌, ◌||◌, codes, nat_lt, List, [], ◌∷◌, ◌++◌, length, map, filter, flat_map, if◌then◌else◌, Option, Some, None, is_some}
+use Rattle.std.specs.Prelude.{ℕ, Bool, false, not, ◌&&◌, ◌||◌, codes, nat_lt, List, [], ◌∷◌, ◌++◌, length, map, filter, flat_map, if◌then◌else◌, Option, Some, None, is_some, option_map}
+use Rattle.std.specs.Borrow.{Bor}
 use Rattle.std.specs.Global.{Vec}
 use Rattle.std.specs.List.{list_all, list_any}
 use Rattle.std.specs.Str.{bytes_eq}
-use Rattle.dumps.specs.Options.{Extension, Known, Table, is_role, is_ending, known_of}
+use Rattle.dumps.specs.Options.{Extension, Known, Table, is_role, is_deciding, is_ending, known_of}
 use Rattle.dumps.specs.Parts.{Part, target_of, value_of}
 use Rattle.dumps.specs.Conditions.{Condition, named_thing}
-use Rattle.dumps.specs.Own.{is_of, line_of}
+use Rattle.dumps.specs.Own.{given_words, is_of, line_of}
 use Rattle.dumps.specs.declared.options.row.Lasting.{Lasting}
 use Rattle.dumps.specs.declared.options.row.Role.TheVariants as role
 use Rattle.dumps.specs.declared.reading.foreign.NeededText.{NeededText}
@@ -53,20 +54,21 @@ is_unknown known need = not (is_some (known_of known need.text))
 abbrev pub unknown_needs : List Known → List Needed → List Needed
 unknown_needs known needs = filter (is_unknown known) needs
 
--- a rule by its chain, what it needs, what its target sets, and whether it ends the walk of each packet
+-- a rule by its chain, what it needs, what its target sets, whether it ends the walk of each packet, and the verdict of its own that its target gives
 pub record ReadRule : Type 0 where
   pub chain : List ℕ
   pub needs : List Needed
   pub sets : List (List ℕ)
   pub ends : Bool
+  pub verdict : Option (List ℕ)
 
 -- the rule is in a chain
 abbrev pub is_in : List ℕ → ReadRule → Bool
 is_in chain rule = bytes_eq rule.chain chain
 
--- the rule needs something
+-- the rule needs something, or its verdict is its own: the program doesn't read all of it
 abbrev pub needs_some : ReadRule → Bool
-needs_some rule = nat_lt 0 (length rule.needs)
+needs_some rule = nat_lt 0 (length rule.needs) || is_some rule.verdict
 
 -- of each need whether the rule needs that the condition doesn't hold
 abbrev pub inversions : List Needed → List Bool
@@ -103,6 +105,20 @@ ends_by parts (Some row) = is_ending row.kind && (not (bytes_eq row.name (codes 
 abbrev pub ends_each : Table → List Part → Bool
 ends_each table parts = ends_by parts (target_of table parts)
 
+-- a verdict of its own that a target gives (iptables-extensions(8), NFQUEUE, SYNPROXY, CLUSTERIP): its name and its options, as a line has them
+abbrev pub verdict_by : Table → List Part → Option Extension → Option (List ℕ)
+verdict_by table parts None = None
+verdict_by table parts (Some row) =
+    if is_deciding row.kind then Some (row.name ++ line_of (flat_map (given_words table) (filter (is_of row.name) parts))) else None
+
+-- the verdict of its own of the target of some parts
+abbrev pub verdict_of : Table → List Part → Option (List ℕ)
+verdict_of table parts = verdict_by table parts (target_of table parts)
+
+-- those of the rules of a chain, rule by rule
+abbrev pub verdicts_in : List ℕ → List ReadRule → List (Option (List ℕ))
+verdicts_in chain rules = map (λ (rule : ReadRule). rule.verdict) (filter (is_in chain) rules)
+
 -- the first of some rules that is in a chain ends the walk of each packet
 abbrev pub is_ended : List ℕ → List ReadRule → Bool
 is_ended chain [] = false
@@ -131,9 +147,17 @@ needs_in needs = map needed_in needs
 abbrev pub kept_names : List (Vec ℕ) → List (List ℕ)
 kept_names names = map (λ (name : Vec ℕ). name.items) names
 
+-- a verdict of its own that is kept
+abbrev pub kept_verdict : Option (Vec ℕ) → Option (List ℕ)
+kept_verdict verdict = option_map (λ (text : Vec ℕ). text.items) verdict
+
+-- verdicts that are lent
+abbrev pub lent_verdicts : List (Option (Bor (List ℕ))) → List (Option (List ℕ))
+lent_verdicts all = map (λ (verdict : Option (Bor (List ℕ))). option_map (λ (text : Bor (List ℕ)). text.now) verdict) all
+
 -- a rule, by the code's value
 abbrev pub rule_in : ForeignRule → ReadRule
-rule_in rule = record { chain = rule.chain.items; needs = needs_in rule.needs.items; sets = kept_names rule.sets.items; ends = rule.ends }
+rule_in rule = record { chain = rule.chain.items; needs = needs_in rule.needs.items; sets = kept_names rule.sets.items; ends = rule.ends; verdict = kept_verdict rule.verdict }
 
 -- the rules of a dump, in the order of its lines
 abbrev pub rules_in : Foreign → List ReadRule

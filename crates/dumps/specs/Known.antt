@@ -64,7 +64,7 @@ kind_refusal (kind.Foreign lasting) = None
 kind_refusal kind.Ends = Some refusal.NameOfTarget
 kind_refusal kind.Logs = Some refusal.NameOfTarget
 kind_refusal kind.Passes = Some refusal.NameOfTarget
-kind_refusal kind.Decides = Some refusal.NameOfTarget
+kind_refusal (kind.Decides all) = Some refusal.NameOfTarget
 
 -- why a name gets none: it may be that of a match which isn't there yet
 abbrev pub name_refusal : Option Kind → Option OptionRefusal

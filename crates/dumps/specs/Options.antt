@@ -63,25 +63,25 @@ is_match (kind.Foreign lasting) = true
 is_match kind.Ends = false
 is_match kind.Logs = false
 is_match kind.Passes = false
-is_match kind.Decides = false
+is_match (kind.Decides all) = false
 
--- the kind of target that decides, and that the program doesn't read
+-- a target with a verdict of its own, which the program doesn't read
 abbrev pub is_deciding : Kind → Bool
 is_deciding (kind.Known alone) = false
 is_deciding (kind.Foreign lasting) = false
 is_deciding kind.Ends = false
 is_deciding kind.Logs = false
 is_deciding kind.Passes = false
-is_deciding kind.Decides = true
+is_deciding (kind.Decides all) = true
 
--- a target that the program reads and that may end the walk
+-- a target that may end the walk: one that the program reads, or one with a verdict of its own for each packet
 abbrev pub is_ending : Kind → Bool
 is_ending (kind.Known alone) = false
 is_ending (kind.Foreign lasting) = false
 is_ending kind.Ends = true
 is_ending kind.Logs = false
 is_ending kind.Passes = false
-is_ending kind.Decides = false
+is_ending (kind.Decides all) = all
 
 -- the extension is there and its kind passes the test
 abbrev pub has_kind : (Kind → Bool) → Option Extension → Bool
@@ -96,7 +96,7 @@ has_match table name = has_kind is_match (extension_of table.extensions name)
 abbrev pub has_target : Table → List ℕ → Bool
 has_target table name = has_kind (λ k. not (is_match k)) (extension_of table.extensions name)
 
--- there is a target of this name that decides, and that the program doesn't read
+-- there is a target of this name with a verdict of its own, which the program doesn't read
 abbrev pub decides : Table → List ℕ → Bool
 decides table name = has_kind is_deciding (extension_of table.extensions name)
 

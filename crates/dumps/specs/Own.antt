@@ -1,5 +1,5 @@
 -- Which parts of a line the program reads, and the words that it is given (iptables-save(8)).
-use Rattle.std.specs.Prelude.{◌≡◌, All, ℕ, ◌==◌, Bool, true, false, not, ◌&&◌, ◌||◌, List, [], ◌∷◌, ◌++◌, length, nat_lt, map, flat_map, if◌then◌else◌, Option, Some, None, is_some}
+use Rattle.std.specs.Prelude.{◌≡◌, All, ℕ, ◌==◌, Bool, true, false, not, ◌&&◌, ◌||◌, List, [], ◌∷◌, ◌++◌, length, nat_lt, map, flat_map, if◌then◌else◌, Option, Some, None, is_some, codes}
 use Rattle.std.specs.List.{list_any, list_all}
 use Rattle.std.specs.Char.{is_ascii_alphabetic}
 use Rattle.std.specs.Str.{bytes_eq}
@@ -7,7 +7,7 @@ use Rattle.fields.specs.text.Line.{IsOneLine, AreOneLine}
 use Rattle.fields.specs.text.Words.{is_bare, words_of}
 use Rattle.fields.specs.values.Icmp.{icmp_of}
 use Rattle.fields.specs.values.Protocol.{protocol_of}
-use Rattle.dumps.specs.Options.{Extension, Table, extension_of, number_of, is_role}
+use Rattle.dumps.specs.Options.{Extension, Table, decides, extension_of, number_of, is_role}
 use Rattle.dumps.specs.Parts.{IsTakenApart, Part, spelled_words, value_of}
 use Rattle.dumps.specs.declared.options.row.Role.{Role}
 use Rattle.dumps.specs.declared.options.row.Role.TheVariants as role
@@ -42,11 +42,12 @@ all_numbered rows value = all_numbered_after rows [] value
 abbrev pub has_letter : List ℕ → Bool
 has_letter text = list_any is_ascii_alphabetic text
 
--- the value as the program is given it: names of ports and of types of ICMP are replaced by their numbers
+-- the value as the program is given it: names of ports and of types of ICMP are replaced by their numbers, and a target with a verdict of its own by DROP
 abbrev pub given_value : Table → Role → List ℕ → List ℕ
 given_value table r value =
     if is_role role.Ports r then all_numbered table.ports value
     else if is_role role.IcmpType r then numbered table.icmp_types value
+    else if is_role role.Target r && decides table value then codes "DROP"
     else value
 
 -- the program reads an option with this value as it is given. A value without letters has no name in it, so it is left to the program
@@ -84,7 +85,7 @@ stays_as table name parts (kind.Foreign lasting) = false
 stays_as table name parts kind.Ends = false
 stays_as table name parts kind.Logs = false
 stays_as table name parts kind.Passes = false
-stays_as table name parts kind.Decides = false
+stays_as table name parts (kind.Decides all) = false
 
 -- the same where the table has a match or target of this name; else it doesn't
 abbrev pub match_stays : Table → List ℕ → List Part → Option Extension → Bool
@@ -96,7 +97,7 @@ abbrev pub is_passing : Kind → Bool
 is_passing kind.Passes = true
 is_passing kind.Ends = false
 is_passing kind.Logs = false
-is_passing kind.Decides = false
+is_passing (kind.Decides all) = false
 is_passing (kind.Known alone) = false
 is_passing (kind.Foreign lasting) = false
 

@@ -2,7 +2,7 @@
 use Rattle.std.specs.Prelude.{ℕ, Bool, true, false, ◌&&◌, ◌||◌, not, nat_lt, List, [], ◌∷◌, length, take, drop, codes, if◌then◌else◌, Option, Some, None, Result, Ok, Err, ◌≡◌, ◌≢◌, ◌⊎◌, ◌++◌, flat_map}
 use Rattle.std.specs.Option.{option_or}
 use Rattle.std.specs.Str.{bytes_eq}
-use Rattle.dumps.specs.Options.{Row, Extension, Table, option_of, extension_of, is_role, begun_by_protocol, has_match, has_target, decides, begins_or_names}
+use Rattle.dumps.specs.Options.{Row, Extension, Table, option_of, extension_of, is_role, begun_by_protocol, has_match, has_target, begins_or_names}
 use Rattle.dumps.specs.declared.options.row.Role.{Role}
 use Rattle.dumps.specs.declared.options.row.Role.TheVariants as role
 
@@ -84,15 +84,12 @@ pub data Refusal : Type 0 where
   UnknownOption : List ℕ → Refusal
   ValueMissing : List ℕ → Refusal
   UnknownMatch : List ℕ → Refusal
-  DecidingTarget : List ℕ → Refusal
   InversionNotAllowed : List ℕ → Refusal
 
--- why an option with this value may not stand anywhere: a match that the table lacks, or a target that decides unread
+-- why an option with this value may not stand anywhere: a match that the table lacks
 abbrev pub refused_with : Table → Role → List ℕ → Option Refusal
 refused_with table r value =
-    if is_role role.Match r && not (has_match table value) then Some (UnknownMatch value)
-    else if is_role role.Target r && decides table value then Some (DecidingTarget value)
-    else None
+    if is_role role.Match r && not (has_match table value) then Some (UnknownMatch value) else None
 
 -- the part and what follows it, unless it is refused
 abbrev pub unless_refused : Part → List (List ℕ) → Option Refusal → Result (Part × List (List ℕ)) Refusal

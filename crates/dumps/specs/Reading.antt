@@ -9,11 +9,11 @@ use Rattle.dumps.specs.Parts.{Part, IsTakenApart, IsRefused}
 use Rattle.dumps.specs.Parts as parts
 use Rattle.dumps.specs.Own.{own_words, spelled, line_of}
 use Rattle.dumps.specs.Conditions.{conditions}
-use Rattle.dumps.specs.Foreign.{Needed, ReadRule, needed, needs_some, known_words, unknown_needs, ends_each, set_by}
+use Rattle.dumps.specs.Foreign.{Needed, ReadRule, needed, needs_some, known_words, unknown_needs, ends_each, set_by, verdict_of}
 use Rattle.dumps.specs.declared.options.row.Kind.{Kind}
 use Rattle.dumps.specs.declared.options.row.Kind.TheVariants as kind
 pub use Rattle.dumps.specs.declared.reading.fault.Refusal.{Refusal}
-pub use Rattle.dumps.specs.declared.reading.fault.Refusal.TheVariants.{UnknownOption, ValueMissing, UnknownMatch, DecidingTarget, InversionNotAllowed, RulesMoved, ChainIsTarget}
+pub use Rattle.dumps.specs.declared.reading.fault.Refusal.TheVariants.{UnknownOption, ValueMissing, UnknownMatch, InversionNotAllowed, RulesMoved, ChainIsTarget}
 use Rattle.dumps.specs.SectionLines.{RuleLine, OtherLine, begins_with, is_commit, rule_line, other_line, named, moving}
 use Rattle.std.specs.Bool.{MatchBool}
 pub use Rattle.dumps.specs.declared.reading.dump.Section.{Section}
@@ -88,6 +88,7 @@ read_rule table line parts =
       needs = unknown_needs table.known (needs_of table parts);
       sets = set_by table parts;
       ends = ends_each table parts;
+      verdict = verdict_of table parts;
     }
 
 -- a rule is the last one so far, with this text
@@ -112,10 +113,10 @@ pub record IsRuleRead (table : Table) (line : RuleLine) (old new : Read) : Type 
   pub taken : IsRuleTaken table line old new
   pub still : list_any needs_some new.rules ≡ true → old.moved ≡ None
 
--- a target passes, or decides and isn't read: a chain of its name would be taken for it
+-- a target passes, or has a verdict of its own: a chain of its name would be taken for it
 abbrev pub is_hidden : Kind → Bool
 is_hidden kind.Passes = true
-is_hidden kind.Decides = true
+is_hidden (kind.Decides all) = true
 is_hidden kind.Ends = false
 is_hidden kind.Logs = false
 is_hidden (kind.Known alone) = false
@@ -183,7 +184,6 @@ abbrev pub apart_refusal : parts.Refusal → Refusal × List ℕ
 apart_refusal (parts.UnknownOption word) = (UnknownOption, word)
 apart_refusal (parts.ValueMissing word) = (ValueMissing, word)
 apart_refusal (parts.UnknownMatch word) = (UnknownMatch, word)
-apart_refusal (parts.DecidingTarget word) = (DecidingTarget, word)
 apart_refusal (parts.InversionNotAllowed word) = (InversionNotAllowed, word)
 
 -- rules may have moved by a word, one needs something, and that is refused

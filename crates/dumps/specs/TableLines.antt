@@ -51,7 +51,8 @@ kind_word (kind.Foreign lasting.Set) = codes "set"
 kind_word kind.Ends = codes "ends"
 kind_word kind.Logs = codes "logs"
 kind_word kind.Passes = codes "passes"
-kind_word kind.Decides = codes "decides"
+kind_word (kind.Decides true) = codes "decides"
+kind_word (kind.Decides false) = codes "may-decide"
 
 -- whose an option is by a word: `.` is the rule itself
 abbrev pub owner_named : List ℕ → List ℕ

@@ -114,7 +114,6 @@ refusal_in fault.NoMemory = None
 refusal_in (fault.UnknownOption word) = Some (parts.UnknownOption word.now)
 refusal_in (fault.ValueMissing word) = Some (parts.ValueMissing word.now)
 refusal_in (fault.UnknownMatch word) = Some (parts.UnknownMatch word.now)
-refusal_in (fault.DecidingTarget word) = Some (parts.DecidingTarget word.now)
 refusal_in (fault.InversionNotAllowed word) = Some (parts.InversionNotAllowed word.now)
 
 -- the same where there may be no fault

@@ -8,9 +8,9 @@ use Rattle.std.proofs.lemmas.Bool.{or_parts}
 use Rattle.std.proofs.lemmas.Slice.Eq.{bytes_eq-Decides}
 use Rattle.std.proofs.lemmas.List.Elements.{All-nil, All-cons, All-head, All-tail, All-weaker, All-contains_itself, Contains-append_left, Contains-append_right, filter-append}
 use Rattle.dumps.specs.Options.{Row, Table, is_role, role_number, option_of}
-use Rattle.dumps.specs.Parts.{Part, value_of, option_of_begun, begun_by, implied_by, newest, option_after, AreParts, IsTakenApart}
+use Rattle.dumps.specs.Parts.{Part, value_of, option_of_begun, begun_by, implied_by, newest, option_after, target_of, AreParts, IsTakenApart}
 use Rattle.dumps.specs.Own.{is_read, is_of, begins, up_to_next}
-use Rattle.dumps.specs.Conditions.{Condition, is_unread, asked_options, asked_by, is_there, protocol_condition, asked_first, conditions_after, conditions, HasOwnStarts, MatchesAreAsked, ProtocolsAreAsked}
+use Rattle.dumps.specs.Conditions.{Condition, is_unread, asked_options, asked_by, is_there, protocol_condition, asked_first, conditions_after, taken_by, conditions, HasOwnStarts, MatchesAreAsked, ProtocolsAreAsked}
 use Rattle.dumps.specs.Conditions as asking
 use Rattle.dumps.specs.declared.options.row.Role.TheVariants as role
 
@@ -141,6 +141,14 @@ included table seen (p ∷ ps) rest =
     (All-weaker (Contains further) (Contains (here ++ further)) (λ x. Contains-append_right here further x) (asked_first table ((seen ++ p ∷ []) ++ ps) rest)
     (included table (seen ++ p ∷ []) ps rest))
 
+-- and so among those of a line
+included-line : (table : Table) (before rest : List Part) → All (Contains (conditions table (before ++ rest))) (asked_first table before rest)
+included-line table before rest =
+    let line = before ++ rest in
+    let matches = conditions_after table [] line in
+    let taken : List Condition = taken_by line (target_of table line) in
+    All-weaker (Contains matches) (Contains (matches ++ taken)) (λ x. Contains-append_left matches taken x) (asked_first table before rest) (included table [] before rest)
+
 -- a part of an owner begins no match, and is no protocol
 abbrev IsNoStart : Row → Type 0
 IsNoStart row = (is_role role.Match row.role || is_role role.Protocol row.role) ≡ true → row.owner ≡ []
@@ -200,7 +208,7 @@ lost-begun table name before after part owner no_start of unread_is h =
     let asked : All (Contains (conditions table (before ++ part ∷ after))) (asked_by table name from) =
     subst (λ (l : List Part). All (Contains (conditions table l)) (asked_by table name from)) (sym line)
     (subst (λ (l : List Condition). All (Contains (conditions table (h.before ++ h.start ∷ from))) l) (asked-begun table name h.before h.start from h.begun)
-    (included table [] h.before (h.start ∷ from))) in
+    (included-line table h.before (h.start ∷ from))) in
     record {
       before = h.before ++ h.start ∷ [];
       from = from;
@@ -217,7 +225,7 @@ lost-implied table name before start between after part line split of some none 
     let asked : All (Contains (conditions table line)) (asked_by table name from) =
     subst (λ (l : List Part). All (Contains (conditions table l)) (asked_by table name from)) (sym split)
     (subst (λ (l : List Condition). All (Contains (conditions table (before ++ from))) l) (asked-implied table name before start between of some none own)
-    (included table [] before from)) in
+    (included-line table before from)) in
     record {
       before = before;
       from = from;
@@ -283,7 +291,7 @@ options_are_asked table words before after part own apart unread_is some = go (l
 
 pub matches_are_asked : MatchesAreAsked
 matches_are_asked table before after name start begun =
-    subst (λ (l : List Condition). All (Contains (conditions table (before ++ start ∷ after))) l) (asked-begun table name before start after begun) (included table [] before (start ∷ after))
+    subst (λ (l : List Condition). All (Contains (conditions table (before ++ start ∷ after))) l) (asked-begun table name before start after begun) (included-line table before (start ∷ after))
 
 -- what is asked where a protocol stands
 asked-protocol : (table : Table) (before : List Part) (part : Part) (after : List Part) → is_role role.Protocol part.row.role ≡ true → is_read table part ≡ false → asked_first table before (part ∷ after) ≡ protocol_condition part ∷ []
@@ -296,5 +304,5 @@ asked-protocol table before part after e unread_is =
 pub protocols_are_asked : ProtocolsAreAsked
 protocols_are_asked table before after part e unread_is =
     let all : All (Contains (conditions table (before ++ part ∷ after))) (protocol_condition part ∷ []) =
-    subst (λ (l : List Condition). All (Contains (conditions table (before ++ part ∷ after))) l) (asked-protocol table before part after e unread_is) (included table [] before (part ∷ after)) in
+    subst (λ (l : List Condition). All (Contains (conditions table (before ++ part ∷ after))) l) (asked-protocol table before part after e unread_is) (included-line table before (part ∷ after)) in
     All-head (Contains (conditions table (before ++ part ∷ after))) (protocol_condition part) [] all

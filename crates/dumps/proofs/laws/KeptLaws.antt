@@ -6,8 +6,8 @@ use Rattle.std.specs.Option.{option_or}
 use Rattle.std.specs.Str.{bytes_eq}
 use Rattle.std.proofs.lemmas.Slice.Eq.{bytes_eq-Decides}
 use Rattle.std.proofs.lemmas.List.Elements.{All-nil, All-cons, All-head, All-tail, All-push}
-use Rattle.dumps.specs.Options.{Row, Extension, Table, is_role, option_of, extension_of, is_match, has_kind, has_match, has_target, begun_by_protocol, decides}
-use Rattle.dumps.specs.Parts.{Part, value_of, Refusal, UnknownMatch, DecidingTarget, option_of_begun, begun_by, implied_by, newest, option_after, refused_with, AreParts}
+use Rattle.dumps.specs.Options.{Row, Extension, Table, is_role, option_of, extension_of, is_match, has_kind, has_match, has_target, begun_by_protocol}
+use Rattle.dumps.specs.Parts.{Part, value_of, UnknownMatch, option_of_begun, begun_by, implied_by, newest, option_after, refused_with, AreParts}
 use Rattle.dumps.specs.Own.{up_to_next}
 use Rattle.dumps.specs.Conditions.{Condition, condition_of, unless_always, asked_as, asked_of, always_hold, asked_options, conditions, lasting_of, IsAccounted, Asks, Holds, OfTarget, IsNotLost, OptionsAreKept, NothingIsLost}
 use Rattle.dumps.specs.declared.options.row.Role.TheVariants as role
@@ -44,11 +44,8 @@ begun-named table part allowed = go (is_role role.Match part.row.role) (is_role 
     value : List ℕ
     value = value_of part
 
-    rest : Option Refusal
-    rest = cond (is_role role.Target part.row.role && decides table (value_of part)) (Some (DecidingTarget (value_of part))) None
-
     go : (m t h g : Bool) → has_match table value ≡ h → has_target table value ≡ g
-        → cond (m && not h) (Some (UnknownMatch value)) rest ≡ None
+        → cond (m && not h) (Some (UnknownMatch value)) None ≡ None
         → IfSome (cond (m || t && g) (Some value) None) (HasName table)
     go true t true g e f a = has-name table value (extension_of table.extensions value) is_match refl e
     go true t false g e f a = absurd (cc)
@@ -172,7 +169,7 @@ kept-as table all owner parts part (kind.Foreign lasts) is has asked = kept-alwa
 kept-as table all owner parts part kind.Ends is has asked = OfTarget (ap is_match is)
 kept-as table all owner parts part kind.Logs is has asked = OfTarget (ap is_match is)
 kept-as table all owner parts part kind.Passes is has asked = OfTarget (ap is_match is)
-kept-as table all owner parts part kind.Decides is has asked = OfTarget (ap is_match is)
+kept-as table all owner parts part (kind.Decides every) is has asked = OfTarget (ap is_match is)
 
 kept-by : (table : Table) (line : List Part) (part : Part) (all : List Condition) → HasName table part.row.owner → IsAskedAmong table line part all → IsNotLost table line part all
 kept-by table line part all (owner, its, named) h =

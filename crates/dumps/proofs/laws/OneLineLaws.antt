@@ -1,10 +1,10 @@
 -- The own words of a line without newlines have none.
-use Rattle.std.proofs.Common.{◌≢◌, ℕ, Bool, true, false, cond, List, [], ◌∷◌, ◌++◌, map, flat_map, subst, Option, Some, None}
+use Rattle.std.proofs.Common.{◌≢◌, ◌<◌, ℕ, Bool, true, false, ◌&&◌, cond, List, [], ◌∷◌, ◌++◌, map, flat_map, subst, Option, Some, None, arith}
 use Rattle.std.specs.Prelude.{All, IfSome, codes, find, option_map}
 use Rattle.std.specs.Str.{bytes_eq}
 use Rattle.std.proofs.lemmas.List.Elements.{All-nil, All-cons, All-head, All-tail, All-append, All-push}
 use Rattle.fields.specs.text.Line.{IsOneLine, AreOneLine}
-use Rattle.dumps.specs.Options.{Table, number_of, is_role}
+use Rattle.dumps.specs.Options.{Table, decides, number_of, is_role}
 use Rattle.dumps.specs.Parts.{Part, spelled_words, part_words}
 use Rattle.dumps.specs.Own.{number_or, numbered, is_separator, all_numbered, all_numbered_after, given_value, given_words, is_own, own_part_words, own_words, HasNumbersInOneLine, OwnLinesReadBack}
 use Rattle.dumps.specs.declared.options.row.Role.{Role}
@@ -57,12 +57,21 @@ all_numbered_one rows h piece (byte ∷ bytes) first rest =
     go false here anew on = on
 
 value_one : (table : Table) (r : Role) (value : List ℕ) → HasNumbersInOneLine table → IsOneLine value → IsOneLine (given_value table r value)
-value_one table r value h one = go (is_role role.Ports r) (is_role role.IcmpType r)
+value_one table r value h one = go (is_role role.Ports r) (is_role role.IcmpType r) (is_role role.Target r && decides table value)
   where
-    go : (a b : Bool) → IsOneLine (cond a (all_numbered table.ports value) (cond b (numbered table.icmp_types value) value))
-    go true b = all_numbered_one table.ports h.0 [] value (All-nil (λ (b : ℕ). b ≢ 10)) one
-    go false true = numbered_one table.icmp_types h.1 value one
-    go false false = one
+    byte_one : (b : ℕ) → 10 < b → (bytes : List ℕ) → IsOneLine bytes → IsOneLine (b ∷ bytes)
+    byte_one b after bytes rest = All-cons (λ (x : ℕ). x ≢ 10) b bytes (λ e. omega (arith, after, e)) rest
+
+    drop_one : IsOneLine (codes "DROP")
+    drop_one =
+        byte_one 68 (omega arith) (82 ∷ (79 ∷ (80 ∷ []))) (byte_one 82 (omega arith) (79 ∷ (80 ∷ []))
+        (byte_one 79 (omega arith) (80 ∷ []) (byte_one 80 (omega arith) [] (All-nil (λ (x : ℕ). x ≢ 10)))))
+
+    go : (a b d : Bool) → IsOneLine (cond a (all_numbered table.ports value) (cond b (numbered table.icmp_types value) (cond d (codes "DROP") value)))
+    go true b d = all_numbered_one table.ports h.0 [] value (All-nil (λ (b : ℕ). b ≢ 10)) one
+    go false true d = numbered_one table.icmp_types h.1 value one
+    go false false true = drop_one
+    go false false false = one
 
 values_one : (table : Table) (r : Role) (values : List (List ℕ)) → HasNumbersInOneLine table → AreOneLine values → AreOneLine (map (given_value table r) values)
 values_one table r [] h one = All-nil IsOneLine

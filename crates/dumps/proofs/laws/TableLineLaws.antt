@@ -40,7 +40,7 @@ is-kind word k = bytes_eq (kind_word k) word
 role-at : (word : List ℕ) (i : ℕ) (r : Role) → i < 14 → is-role word (slice_index_or ROLES i r) ≡ true → list_any (is-role word) ROLES ≡ true
 role-at word i r inside is = list_any_at (is-role word) ROLES i r inside is
 
-kind-at : (word : List ℕ) (i : ℕ) (k : Kind) → i < 9 → is-kind word (slice_index_or KINDS i k) ≡ true → list_any (is-kind word) KINDS ≡ true
+kind-at : (word : List ℕ) (i : ℕ) (k : Kind) → i < 10 → is-kind word (slice_index_or KINDS i k) ≡ true → list_any (is-kind word) KINDS ≡ true
 kind-at word i k inside is = list_any_at (is-kind word) KINDS i k inside is
 
 -- each role is among those that are tried
@@ -69,7 +69,8 @@ among-kinds word (kind.Foreign lasting.Set) is = kind-at word 4 (kind.Foreign la
 among-kinds word kind.Ends is = kind-at word 5 kind.Ends (omega arith) is
 among-kinds word kind.Logs is = kind-at word 6 kind.Logs (omega arith) is
 among-kinds word kind.Passes is = kind-at word 7 kind.Passes (omega arith) is
-among-kinds word kind.Decides is = kind-at word 8 kind.Decides (omega arith) is
+among-kinds word (kind.Decides true) is = kind-at word 8 (kind.Decides true) (omega arith) is
+among-kinds word (kind.Decides false) is = kind-at word 9 (kind.Decides false) (omega arith) is
 
 not-both : (b : Bool) → b ≡ true → b ≡ false → ⊥
 not-both b is not = absurd (cc)

@@ -4,12 +4,13 @@ ghost use Rattle.dumps.specs.Own.{is_of};
 ghost use Rattle.std.specs.List.{list_any};
 ghost use Rattle.fields.specs.text.WordSlice.{words_in};
 ghost use Rattle.dumps.specs.Parts.{spelled_words};
-ghost use Rattle.dumps.specs.Conditions.{asks, asked_thing, counts, lasting_by, is_opposed, turns, holds, is_single, differ, is_inverted, text_words, always_hold, unless_always, is_unread, asked_options, asked_as, asked_by, is_there, implied_by, protocol_condition, asked_first, conditions};
-ghost use Rattle.dumps.specs.Views.{asks_in, table_in, texts_in, part_in, parts_of, passes, conditions_in};
+ghost use Rattle.dumps.specs.Conditions.{asks, asked_thing, counts, lasting_by, is_opposed, turns, holds, is_single, differ, is_inverted, text_words, always_hold, condition_of, unless_always, is_unread, asked_options, asked_as, asked_by, is_there, implied_by, protocol_condition, asked_first, conditions_after, taken_as, conditions};
+ghost use Rattle.dumps.specs.Views.{asks_in, extension_in, table_in, texts_in, part_in, parts_of, passes, conditions_in};
 
 use crate::apart::own::{begins, is_of, is_read, up_to_next};
 use crate::apart::part::Part;
-use crate::options::row::{Kind, Lasting, Role};
+use crate::apart::target::target_of;
+use crate::options::row::{ExtensionRow, Kind, Lasting, Role};
 use crate::options::table::{OptionTable, extension_in};
 use fields::WordSlice;
 use std::alloc::{AllocError, Global};
@@ -212,6 +213,28 @@ fn lasting_by(parts: &[Part<'_>], lasting: Lasting) -> Lasting
     lasting
 }
 
+// Adds the condition that the parts ask.
+fn push_condition<'a>(
+    alloc: Global,
+    conditions: &mut Vec<Condition<'a>>,
+    name: &'a [u8],
+    lasting: Lasting,
+    parts: &[Part<'a>],
+) -> Result<(), AllocError>
+    ensures { IfOk result (λ _. conditions_in conditions.new.items ≡ conditions_in conditions.old.items
+        ++ condition_of name.now lasting (parts_of parts.now) ∷ []) }
+{
+    let words = text_of(alloc, parts, is_single(parts))?;
+    conditions.push(Condition {
+        name,
+        thing: asked_thing(parts),
+        lasting: lasting_by(parts, lasting),
+        words,
+        inverted: is_inverted(parts),
+    })?;
+    Ok(())
+}
+
 // Adds the condition that the parts ask, unless it always holds.
 fn add_condition<'a>(
     alloc: Global,
@@ -226,15 +249,7 @@ fn add_condition<'a>(
     if always_hold(parts) {
         return Ok(());
     }
-    let words = text_of(alloc, parts, is_single(parts))?;
-    conditions.push(Condition {
-        name,
-        thing: asked_thing(parts),
-        lasting: lasting_by(parts, lasting),
-        words,
-        inverted: is_inverted(parts),
-    })?;
-    Ok(())
+    push_condition(alloc, conditions, name, lasting, parts)
 }
 
 // Whether the program doesn't read one of the options of a match.
@@ -404,13 +419,13 @@ fn add_at<'a>(
     }
 }
 
-// The conditions of a line, in the order in which their matches begin.
-pub(crate) fn conditions_of<'a>(
+// The conditions of the matches of a line, in the order in which these begin.
+fn conditions_of<'a>(
     alloc: Global,
     table: &OptionTable<'_>,
     parts: &[Part<'a>],
 ) -> Result<Vec<Condition<'a>>, AllocError>
-    ensures { IfOk result (λ all. conditions_in all.items ≡ conditions (table_in table.now) (parts_of parts.now)) }
+    ensures { IfOk result (λ all. conditions_in all.items ≡ conditions_after (table_in table.now) [] (parts_of parts.now)) }
 {
     let mut conditions = Vec::new(alloc);
     for place in 0..parts.len() {
@@ -421,6 +436,44 @@ pub(crate) fn conditions_of<'a>(
             &parts[..place],
             &parts[place..],
         )?;
+    }
+    Ok(conditions)
+}
+
+// Adds the condition that a target is which takes some packets alone.
+fn add_taking<'a>(
+    alloc: Global,
+    conditions: &mut Vec<Condition<'a>>,
+    row: ExtensionRow<'a>,
+    parts: &[Part<'a>],
+) -> Result<(), AllocError>
+    ensures { IfOk result (λ _. conditions_in conditions.new.items ≡ conditions_in conditions.old.items
+        ++ taken_as (extension_in row.entry).name (parts_of parts.now) (extension_in row.entry).kind) }
+{
+    if !matches!(row.kind, Kind::Decides { all: false }) {
+        return Ok(());
+    }
+    let options = options_of(alloc, row.name, parts)?;
+    push_condition(
+        alloc,
+        conditions,
+        row.name,
+        Lasting::Place,
+        options.as_slice(),
+    )
+}
+
+// The conditions of a line: those of its matches, and that of its target.
+pub(crate) fn all_conditions<'a>(
+    alloc: Global,
+    table: &OptionTable<'a>,
+    parts: &[Part<'a>],
+) -> Result<Vec<Condition<'a>>, AllocError>
+    ensures { IfOk result (λ all. conditions_in all.items ≡ conditions (table_in table.now) (parts_of parts.now)) }
+{
+    let mut conditions = conditions_of(alloc, table, parts)?;
+    if let Some(row) = target_of(table, parts) {
+        add_taking(alloc, &mut conditions, row, parts)?;
     }
     Ok(conditions)
 }

@@ -17,9 +17,6 @@ pub enum ApartFault<'a> {
     /// D3: `-m` with a word that is no match.
     #[error("unknown match")]
     UnknownMatch(&'a [u8]),
-    /// D4: a target that decides, and that the program doesn't read.
-    #[error("target that decides")]
-    DecidingTarget(&'a [u8]),
     /// D5: `!` before an option that begins a match or names a target.
     #[error("inversion not allowed")]
     InversionNotAllowed(&'a [u8]),

@@ -8,6 +8,7 @@ ghost use Rattle.dumps.specs.Views.{table_in, names_in, part_in, parts_of};
 
 use crate::apart::own::{is_own, is_separator};
 use crate::apart::part::Part;
+use crate::apart::taking::decides;
 use crate::options::row::Role;
 use crate::options::table::{NameRow, OptionTable, number_of};
 use std::alloc::{AllocError, Global};
@@ -143,6 +144,7 @@ fn append_value(
     match role {
         Role::Ports => append_ports(line, table.ports, value),
         Role::IcmpType => append_icmp_type(line, table.icmp_types, value),
+        Role::Target if decides(table, value) => append_word(line, b"DROP".as_slice()),
         _ => append_word(line, value),
     }
 }
@@ -165,7 +167,7 @@ fn append_values(
 }
 
 // Appends the words of a part so.
-fn append_part(
+pub(crate) fn append_part(
     line: &mut Vec<u8>,
     table: &OptionTable<'_>,
     part: &Part<'_>,

@@ -44,14 +44,14 @@ pub(crate) fn has_target(table: &OptionTable<'_>, name: &[u8]) -> bool
     }
 }
 
-// Whether a target of this name decides, unread.
-fn decides(table: &OptionTable<'_>, name: &[u8]) -> bool
+// Whether a target of this name has a verdict of its own, unread.
+pub(crate) fn decides(table: &OptionTable<'_>, name: &[u8]) -> bool
     ensures { result ≡ decides (table_in table.now) name.now }
 {
     match extension_in(table.extensions, name) {
         None => false,
         Some(row) => match row.kind {
-            Kind::Decides => true,
+            Kind::Decides { .. } => true,
             _ => false,
         },
     }
@@ -168,13 +168,6 @@ fn refused<'a>(table: &OptionTable<'a>, part: &Part<'a>) -> Option<ApartFault<'a
                 None
             } else {
                 Some(ApartFault::UnknownMatch(part.value()))
-            }
-        }
-        Role::Target => {
-            if decides(table, part.value()) {
-                Some(ApartFault::DecidingTarget(part.value()))
-            } else {
-                None
             }
         }
         _ => None,

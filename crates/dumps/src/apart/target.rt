@@ -1,13 +1,15 @@
 //! The target of a line.
-ghost use Rattle.std.specs.Prelude.{◌≡◌, ◌++◌, option_map, IfOk};
+ghost use Rattle.std.specs.Prelude.{◌≡◌, ◌++◌, filter, flat_map, option_map, IfOk};
 ghost use Rattle.std.specs.List.{list_all};
-ghost use Rattle.dumps.specs.Foreign.{ends_each, is_of_target, kept_names, set_by, set_things};
+ghost use Rattle.dumps.specs.Foreign.{ends_each, is_of_target, kept_names, kept_verdict, set_by, set_things, verdict_of};
 ghost use Rattle.dumps.specs.Conditions.{named_thing};
 ghost use Rattle.dumps.specs.Options.{is_ending};
 ghost use Rattle.dumps.specs.Parts.{target_by, target_of};
+ghost use Rattle.dumps.specs.Own.{given_words, is_of, line_of};
 ghost use Rattle.dumps.specs.Views.{table_in, extension_in, part_in, parts_of, texts_in};
 
 use crate::apart::own::is_of;
+use crate::apart::own_line::append_part;
 use crate::apart::part::Part;
 use crate::apart::taking::has_target;
 use crate::options::row::{ExtensionRow, Kind, Role};
@@ -87,6 +89,42 @@ pub(crate) fn set_by(
     Ok(set)
 }
 
+// Appends the words of the options of a target as the program is given them, each after a blank.
+fn append_options(
+    text: &mut Vec<u8>,
+    table: &OptionTable<'_>,
+    name: &[u8],
+    parts: &[Part<'_>],
+) -> Result<(), AllocError>
+    ensures { IfOk result (λ _. text.new.items ≡ text.old.items
+        ++ line_of (flat_map (given_words (table_in table.now)) (filter (is_of name.now) (parts_of parts.now)))) }
+{
+    for part in parts {
+        if is_of(name, part) {
+            append_part(text, table, part)?;
+        }
+    }
+    Ok(())
+}
+
+// The verdict of its own of the target of parts, if it has one: its name and its options, as a line has them.
+pub(crate) fn verdict_of(
+    alloc: Global,
+    table: &OptionTable<'_>,
+    parts: &[Part<'_>],
+) -> Result<Option<Vec<u8>>, AllocError>
+    ensures { IfOk result (λ verdict. kept_verdict verdict ≡ verdict_of (table_in table.now) (parts_of parts.now)) }
+{
+    match target_of(table, parts) {
+        Some(row) if matches!(row.kind, Kind::Decides { .. }) => {
+            let mut text = row.name.to_vec(alloc)?;
+            append_options(&mut text, table, row.name, parts)?;
+            Ok(Some(text))
+        }
+        _ => Ok(None),
+    }
+}
+
 // Whether all parts are those of a target.
 fn are_of_target(name: &[u8], parts: &[Part<'_>]) -> bool
     ensures { result ≡ list_all (is_of_target name.now) (parts_of parts.now) }
@@ -99,13 +137,14 @@ fn are_of_target(name: &[u8], parts: &[Part<'_>]) -> bool
     true
 }
 
-// Whether a target is one that the program reads and that may end the walk.
+// Whether a target may end the walk: one that the program reads, or one with a verdict of its own for each packet.
 fn is_ending(kind: Kind) -> bool
     ensures { result ≡ is_ending kind }
 {
     match kind {
         Kind::Ends => true,
-        Kind::Known { .. } | Kind::Foreign(_) | Kind::Logs | Kind::Passes | Kind::Decides => false,
+        Kind::Decides { all } => all,
+        Kind::Known { .. } | Kind::Foreign(_) | Kind::Logs | Kind::Passes => false,
     }
 }
 

@@ -87,7 +87,9 @@ fn kind_refusal(kind: Kind) -> Option<OptionRefusal>
     match kind {
         Kind::Known { .. } => Some(OptionRefusal::MatchIsRead),
         Kind::Foreign(_) => None,
-        Kind::Ends | Kind::Logs | Kind::Passes | Kind::Decides => Some(OptionRefusal::NameOfTarget),
+        Kind::Ends | Kind::Logs | Kind::Passes | Kind::Decides { .. } => Some(
+            OptionRefusal::NameOfTarget,
+        ),
     }
 }
 

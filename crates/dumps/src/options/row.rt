@@ -57,8 +57,8 @@ pub enum Kind {
     Logs,
     /// A target that gives no verdict: the walk goes on with the next rule.
     Passes,
-    /// A target that decides, and that the program doesn't read.
-    Decides,
+    /// A target with a verdict of its own, which the program doesn't read. `all`: it gives it to each packet that comes to it.
+    Decides { all: bool },
 }
 
 /// An option of a match or a target, or of the rule itself.

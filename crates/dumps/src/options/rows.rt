@@ -340,9 +340,9 @@ TCPMSS passes tcpmss length u32 string
 TEE passes
 TRACE passes
 ULOG passes
-CLUSTERIP decides
+CLUSTERIP may-decide
 NFQUEUE decides
 QUEUE decides
-SYNPROXY decides
+SYNPROXY may-decide
 TARPIT decides
 ";

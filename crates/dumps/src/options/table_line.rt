@@ -26,7 +26,7 @@ const ROLES: [Role; 14] = [
     Role::Sets,
 ];
 
-const KINDS: [Kind; 9] = [
+const KINDS: [Kind; 10] = [
     Kind::Known { alone: false },
     Kind::Known { alone: true },
     Kind::Foreign(Lasting::Text),
@@ -35,7 +35,8 @@ const KINDS: [Kind; 9] = [
     Kind::Ends,
     Kind::Logs,
     Kind::Passes,
-    Kind::Decides,
+    Kind::Decides { all: true },
+    Kind::Decides { all: false },
 ];
 
 // The word for a role.
@@ -73,7 +74,8 @@ fn kind_word(kind: Kind) -> &'static [u8]
         Kind::Ends => b"ends",
         Kind::Logs => b"logs",
         Kind::Passes => b"passes",
-        Kind::Decides => b"decides",
+        Kind::Decides { all: true } => b"decides",
+        Kind::Decides { all: false } => b"may-decide",
     }
 }
 
@@ -109,7 +111,7 @@ fn is_match(kind: Kind) -> bool
 {
     match kind {
         Kind::Known { .. } | Kind::Foreign(_) => true,
-        Kind::Ends | Kind::Logs | Kind::Passes | Kind::Decides => false,
+        Kind::Ends | Kind::Logs | Kind::Passes | Kind::Decides { .. } => false,
     }
 }
 

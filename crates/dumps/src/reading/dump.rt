@@ -92,7 +92,7 @@ fn hides_target(table: &OptionTable<'_>, name: &[u8]) -> bool
 {
     match extension_in(table.extensions, name) {
         None => false,
-        Some(row) => matches!(row.kind, Kind::Passes | Kind::Decides),
+        Some(row) => matches!(row.kind, Kind::Passes | Kind::Decides { .. }),
     }
 }
 
@@ -195,9 +195,7 @@ impl<'a> Reading<'a> {
         append_known(&mut self.text, self.table.known, needs.as_slice())?;
         end_line(&mut self.text)?;
         keep_unknown(&mut needs, self.table.known);
-        let sets = apart.sets(self.alloc, &self.table)?;
-        let ends = apart.ends_each(&self.table);
-        self.foreign.add(line.chain, needs, sets, ends)?;
+        self.foreign.add(line.chain, needs, &apart, &self.table)?;
         Ok(())
     }
 

@@ -67,14 +67,11 @@ pub enum Refusal {
     /// D3: `-m` with a word that is no match.
     #[error("D3 unknown match")]
     UnknownMatch,
-    /// D4: a target that decides, which isn't supported.
-    #[error("D4 target not supported")]
-    DecidingTarget,
     /// D5: `!` before an option that begins a match or names a target.
     #[error("D5 inversion not allowed")]
     InversionNotAllowed,
-    /// D6: a line that may move rules, in a section of which a rule needs a condition.
-    #[error("D6 rules with conditions are moved")]
+    /// D6: a line that may move rules, in a section of which a rule needs a condition or has a verdict of its own.
+    #[error("D6 rules with conditions or verdicts of their own are moved")]
     RulesMoved,
     /// D7: a chain gets the name of a target that the program doesn't read.
     #[error("D7 chain has the name of a target")]
@@ -119,7 +116,6 @@ pub(crate) fn refused_apart(alloc: Global, fault: ApartFault<'_>) -> DumpFault
         ApartFault::UnknownOption(word) => (Refusal::UnknownOption, word),
         ApartFault::ValueMissing(word) => (Refusal::ValueMissing, word),
         ApartFault::UnknownMatch(word) => (Refusal::UnknownMatch, word),
-        ApartFault::DecidingTarget(word) => (Refusal::DecidingTarget, word),
         ApartFault::InversionNotAllowed(word) => (Refusal::InversionNotAllowed, word),
     };
     refused(alloc, refusal, word)

@@ -1,15 +1,16 @@
 //! What the rules of a dump need beyond what the program reads.
-ghost use Rattle.std.specs.Prelude.{◌≡◌, ◌++◌, ◌∷◌, [], map, not, OnOk, IfOk};
+ghost use Rattle.std.specs.Prelude.{◌≡◌, ◌++◌, ◌∷◌, [], map, not, option_map, OnOk, IfOk};
 ghost use Rattle.std.specs.List.{list_any};
-ghost use Rattle.dumps.specs.Foreign.{needed, needed_in, needs_in, rule_in, rules_in, sets_in, is_in, needs_some, words_for, known_words, is_ended, is_unknown, unknown_needs, is_named, kept_names, written};
+ghost use Rattle.dumps.specs.Foreign.{ends_each, set_by, verdict_of, needed, needed_in, needs_in, rule_in, rules_in, sets_in, is_in, needs_some, words_for, known_words, is_ended, is_unknown, unknown_needs, is_named, kept_names, kept_verdict, lent_verdicts, verdicts_in, written};
 ghost use Rattle.dumps.specs.Own.{line_of};
-ghost use Rattle.dumps.specs.Views.{condition_in, conditions_in, texts_in, all_known_in};
+ghost use Rattle.dumps.specs.Views.{condition_in, conditions_in, parts_in, table_in, texts_in, all_known_in};
 
+use crate::apart::Apart;
 use crate::apart::condition::Condition;
 use crate::apart::own_line::append_word;
 use crate::apart::target::named_thing;
 use crate::options::row::Lasting;
-use crate::options::table::{KnownCondition, known_of};
+use crate::options::table::{KnownCondition, OptionTable, known_of};
 use std::alloc::{AllocError, Global};
 
 /// A condition that a rule needs, by its text.
@@ -34,6 +35,8 @@ pub(crate) struct ForeignRule {
     pub(crate) sets: Vec<Vec<u8>>,
     // Whether it ends the walk of each packet.
     pub(crate) ends: bool,
+    // The verdict of its own that its target gives, by its words.
+    pub(crate) verdict: Option<Vec<u8>>,
 }
 
 /// What the rules of the section `filter` of a dump need beyond what the program reads, rule by rule, and what their targets set.
@@ -149,11 +152,21 @@ pub(crate) fn keep_unknown(needs: &mut Vec<NeededText>, known: &[KnownCondition<
     needs.retain(|need| is_unknown(known, need));
 }
 
-// Whether a rule needs something.
+// A verdict that is kept; it is lent.
+fn lent(verdict: &Option<Vec<u8>>) -> Option<&[u8]>
+    ensures { option_map (λ text. text.now) result ≡ kept_verdict verdict.now }
+{
+    match verdict {
+        None => None,
+        Some(text) => Some(text.as_slice()),
+    }
+}
+
+// Whether a rule needs something, or its verdict is its own.
 fn needs_some(rule: &ForeignRule) -> bool
     ensures { result ≡ needs_some (rule_in rule.now) }
 {
-    !rule.needs.is_empty()
+    !rule.needs.is_empty() || rule.verdict.is_some()
 }
 
 // Whether one of some rules needs something.
@@ -178,6 +191,23 @@ fn one_in(rules: &[ForeignRule], chain: &[u8]) -> bool
         }
     }
     false
+}
+
+// The verdicts of their own of the rules of a chain among some.
+fn verdicts_among<'s>(
+    alloc: Global,
+    rules: &'s [ForeignRule],
+    chain: &[u8],
+) -> Result<Vec<Option<&'s [u8]>>, AllocError>
+    ensures { IfOk result (λ all. lent_verdicts all.items ≡ verdicts_in chain.now (map rule_in rules.now)) }
+{
+    let mut all = Vec::new(alloc);
+    for rule in rules {
+        if rule.chain.as_slice() == chain {
+            all.push(lent(&rule.verdict))?;
+        }
+    }
+    Ok(all)
 }
 
 // Whether the first of some rules that is in a chain ends the walk of each packet.
@@ -241,24 +271,30 @@ impl Foreign {
         }
     }
 
-    // Adds a rule, the last of its chain.
-    pub(crate) fn add(
+    // Adds a rule that needs this, the last of its chain.
+    pub(crate) fn add<'a>(
         &mut self,
         chain: &[u8],
         needs: Vec<NeededText>,
-        sets: Vec<Vec<u8>>,
-        ends: bool,
+        apart: &Apart<'a>,
+        table: &OptionTable<'a>,
     ) -> Result<(), AllocError>
-        ensures { OnOk result (rules_in self.new ≡ rules_in self.old
-            ++ record { chain = chain.now; needs = needs_in needs.items; sets = kept_names sets.items; ends = ends } ∷ []) }
+        ensures { OnOk result (rules_in self.new ≡ rules_in self.old ++ record {
+          chain = chain.now;
+          needs = needs_in needs.items;
+          sets = set_by (table_in table.now) (parts_in apart.now);
+          ends = ends_each (table_in table.now) (parts_in apart.now);
+          verdict = verdict_of (table_in table.now) (parts_in apart.now);
+        } ∷ []) }
     {
-        let chain = chain.to_vec(self.alloc)?;
-        self.rules.push(ForeignRule {
-            chain,
+        let rule = ForeignRule {
+            chain: chain.to_vec(self.alloc)?,
             needs,
-            sets,
-            ends,
-        })?;
+            sets: apart.sets(self.alloc, table)?,
+            ends: apart.ends_each(table),
+            verdict: apart.verdict(self.alloc, table)?,
+        };
+        self.rules.push(rule)?;
         Ok(())
     }
 
@@ -273,11 +309,30 @@ impl Foreign {
         add_written(alloc, names, self.rules.as_slice())
     }
 
-    /// Whether no rule needs anything.
+    /// Whether no rule needs anything, or has a verdict of its own.
     pub fn is_empty(&self) -> bool
         ensures { result ≡ not (list_any needs_some (rules_in self.now)) }
     {
         !one_needs(self.rules.as_slice())
+    }
+
+    /// The verdicts of their own of the rules of a chain, rule by rule, each by its words; they are lent.
+    ///
+    /// # Errors
+    ///
+    /// `AllocError` where memory was refused.
+    ///
+    /// # Cost
+    ///
+    /// A pass over the rules of all chains.
+    pub fn verdicts_of_chain<'s>(
+        &'s self,
+        alloc: Global,
+        chain: &[u8],
+    ) -> Result<Vec<Option<&'s [u8]>>, AllocError>
+        ensures { IfOk result (λ all. lent_verdicts all.items ≡ verdicts_in chain.now (rules_in self.now)) }
+    {
+        verdicts_among(alloc, self.rules.as_slice(), chain)
     }
 
     // Whether a chain has a rule.
