@@ -50,9 +50,8 @@ const MEANINGS = {
   D1: "iptaudit reads no such option here: write its name in full, or look for what stands before it.",
   D2: "Add the value of the option.",
   D3: "iptaudit reads no such match. It can be taken as a condition, which may hold or not.",
-  D4: "Leave the target out, if it gives no verdict.",
   D5: "This option isn't inverted.",
-  D6: "Append rules with conditions instead.",
+  D6: "Append these rules instead.",
   D7: "Rename the chain.",
 };
 

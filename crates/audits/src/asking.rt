@@ -181,19 +181,21 @@ impl<'a, R: Clock, E: Print + IsTerminal> Asking<'a, R, E> {
     }
 
     /// The verdicts of a set of packets, grouped by a field (`reach`), by their deciders in the order of a listing; those that a policy
-    /// gives come last.
+    /// gives come last. There are none where they aren't known.
     ///
     /// # Errors
     ///
     /// `AllocError` where memory was refused.
-    pub(crate) fn reach(
-        &self,
+    pub fn reach(
+        &mut self,
         subject: &BoxedTable,
         given: &Given,
         field: Field,
     ) -> Result<Option<Vec<Reached>>, AllocError>
         ensures { IfOk result (λ found. IfSome found (λ reached. All (λ entry. entry.numbers.top ≡ top field) reached.items)) }
     {
+        self.begin(1);
+        self.next();
         let Some(mut found) = reach(self.alloc, subject, given, field, self.steps)? else {
             return Ok(None);
         };

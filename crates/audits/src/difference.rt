@@ -45,7 +45,7 @@ fn add_walks<R: Clock, E: Print + IsTerminal>(
     packet: &WrittenPacket,
     found: &mut Differing,
 ) -> Result<(), AllocError> {
-    let Pair { old, new, open } = pair;
+    let Pair { old, new, open, .. } = pair;
     let Some(first) = walk_in(asking, old, open, packet, found.given.as_slice())? else {
         return Ok(());
     };
@@ -79,13 +79,37 @@ fn with_walks<R: Clock, E: Print + IsTerminal>(
     Ok(found)
 }
 
+// Asks of a hook whether two tables give each packet there the same verdict where each verdict of its own drops, and then in each other reading of
+// these. Of the answers the first is taken that says of a packet that it gets two verdicts, or else the first that isn't `Same`.
+fn likeness<R: Clock, E: Print + IsTerminal>(
+    asking: &Asking<'_, R, E>,
+    pair: Pair<'_>,
+    hook: Hook,
+) -> Result<Likeness, AllocError> {
+    let mut answer = asking.likeness(&pair.old.subject(), &pair.new.subject(), hook)?;
+    for reading in pair.verdicts.readings() {
+        if matches!(answer, Likeness::Differ(_, _)) {
+            return Ok(answer);
+        }
+        let (old, new) = (
+            pair.old.read_as(&reading.old),
+            pair.new.read_as(&reading.new),
+        );
+        match asking.likeness(&old, &new, hook)? {
+            Likeness::Same => {}
+            other => answer = other,
+        }
+    }
+    Ok(answer)
+}
+
 // Asks of a hook whether two tables give each packet there the same verdict.
 fn ask_hook<R: Clock, E: Print + IsTerminal>(
     asking: &Asking<'_, R, E>,
     pair: Pair<'_>,
     hook: Hook,
 ) -> Result<HookAnswer, AllocError> {
-    match asking.likeness(&pair.old.subject(), &pair.new.subject(), hook)? {
+    match likeness(asking, pair, hook)? {
         Likeness::Same => Ok(HookAnswer::Same),
         Likeness::Differ(words, answers) => {
             let given = pair.open.shown(asking.alloc(), &answers)?;
@@ -119,7 +143,7 @@ pub fn ask_difference<R: Clock, E: Print + IsTerminal>(
     asking: &mut Asking<'_, R, E>,
     pair: Pair<'_>,
 ) -> Result<Difference, AllocError> {
-    let (old, new) = (pair.old.subject(), pair.new.subject());
+    let (old, new) = pair.verdicts.told(pair.old, pair.new);
     let changes = asking.changes(&old, &new)?;
     let (went, came) = (changes.went.as_slice(), changes.came.as_slice());
     let rules = went.len().saturating_add(came.len());

@@ -47,15 +47,9 @@ fn has(form: Form<'_>, known: &Known) -> bool {
 }
 
 // Takes in what is known of a rule.
-fn add(
-    found: &mut Found,
-    table: &Table,
-    form: Form<'_>,
-    at: Step,
-    known: Known,
-) -> Result<(), AllocError> {
-    found.tally.note(&known, known.standing(table, at));
-    if has(form, &known) {
+fn add(found: &mut Found, inquiry: Inquiry<'_>, at: Step, known: Known) -> Result<(), AllocError> {
+    found.tally.note(&known, known.standing(inquiry.dump, at));
+    if has(inquiry.form, &known) {
         found.rules.push(FoundRule { at, known })?;
     }
     Ok(())
@@ -187,7 +181,7 @@ fn ask_chain<R: Clock, E: Print + IsTerminal>(
             number: before + 1,
         };
         let known = ask_rule(asking, subject, inquiry, at)?;
-        add(found, table, inquiry.form, at, known)?;
+        add(found, inquiry, at, known)?;
     }
     Ok(())
 }

@@ -3,14 +3,11 @@ use crate::fault::Fault;
 use crate::packets::asked_packets::Asked;
 use crate::packets::covering::read_covered;
 use crate::packets::read_packets;
-use audits::{
-    Asking, Form, GivenPacket, Inquiry, Pair, ask_difference, ask_outcomes, ask_packets, ask_rules,
-};
+use audits::{Asking, Form, GivenPacket, Inquiry, Pair, ask_difference, ask_packets, ask_rules};
 use fields::Tap;
 use programs::{Audit, Question};
-use questions::BoxedTable;
 use reports::{Finding, Outcomes};
-use rulesets::{OneDump, RulesetFault, TwoDumps, read_one, read_plain, read_two};
+use rulesets::{Dump, OneDump, RulesetFault, TwoDumps, read_one, read_plain, read_two};
 use std::io::{IsTerminal, Write};
 use std::rt::{Clock, Files};
 
@@ -48,6 +45,7 @@ fn write_differences<'a, R: Clock, E: Print + IsTerminal, W: Write>(
         old: &two.old,
         new: &two.new,
         open: &two.open,
+        verdicts: &two.verdicts,
     };
     let found = ask_difference(asking, pair)?;
     let finding = Finding::Difference {
@@ -61,13 +59,13 @@ fn write_differences<'a, R: Clock, E: Print + IsTerminal, W: Write>(
 // Asks for the verdicts of a set of packets, and answers the status: 3 where they aren't known, else 0.
 fn write_outcomes<'a, R: Clock, E: Print + IsTerminal, W: Write>(
     asking: &mut Asking<'_, R, E>,
-    subject: &BoxedTable,
+    dump: &Dump,
     asked: &Asked,
     json: bool,
     output: &mut Tap<W>,
 ) -> Result<u8, Fault<'a>> {
-    let found = ask_outcomes(asking, subject, &asked.given, asked.field)?;
-    let outcomes = Outcomes::new(&subject.table, asked.given.hook, asked.field, &found);
+    let found = asking.reach(dump.boxed(), &asked.given, asked.field)?;
+    let outcomes = Outcomes::new(dump, asked.given.hook, asked.field, &found);
     Finding::Outcomes(outcomes).write(asking.alloc(), json, output)?;
     Ok(if found.is_some() { 0 } else { 3 })
 }
@@ -82,7 +80,7 @@ fn write_walks<'a, R: Clock, E: Print + IsTerminal, W: Write>(
 ) -> Result<u8, Fault<'a>> {
     let found = ask_packets(asking, &one.dump, &one.open, packets)?;
     let finding = Finding::Walks {
-        table: one.dump.table(),
+        dump: &one.dump,
         open: &one.open,
         packets,
         found: &found,
@@ -160,7 +158,7 @@ where
     ) -> Result<u8, Fault<'a>> {
         let asked = Asked::read(self.rt.alloc(), self.audit.words.as_slice())?;
         let one = read_plain(self.rt, self.errors, file, self.audit)?;
-        write_outcomes(asking, one.dump.boxed(), &asked, self.audit.json, output)
+        write_outcomes(asking, &one.dump, &asked, self.audit.json, output)
     }
 
     // Asks a file what becomes of the packets on standard input, and answers the status.

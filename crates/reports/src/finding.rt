@@ -12,10 +12,9 @@ use crate::lines::each_rule::put_rules;
 use crate::lines::packet_walks::put_packets;
 use audits::{Difference, Found, GivenPacket, Inquiry, PacketWalks, Pair};
 use fields::Tap;
-use rulesets::{MatchCount, OpenConditions, open_counts};
+use rulesets::{Dump, MatchCount, OpenConditions, open_counts};
 use std::alloc::{AllocError, Global};
 use std::io::Write;
-use table::Table;
 
 /// What an audit found.
 #[derive(Clone, Copy)]
@@ -39,7 +38,7 @@ pub enum Finding<'a> {
     /// What becomes of each of some packets.
     Walks {
         /// The table in which they walk.
-        table: &'a Table,
+        dump: &'a Dump,
         /// Its conditions.
         open: &'a OpenConditions,
         /// The packets.
@@ -72,11 +71,11 @@ impl Finding<'_> {
             Finding::Difference { pair, found } => put_differences(*pair, found, counts, output)?,
             Finding::Outcomes(found) => found.put(alloc, output)?,
             Finding::Walks {
-                table,
+                dump,
                 open,
                 packets,
                 found,
-            } => put_packets(table, open, packets, found, counts, output)?,
+            } => put_packets(dump, open, packets, found, counts, output)?,
         }
         Ok(())
     }
@@ -88,11 +87,11 @@ impl Finding<'_> {
             Finding::Difference { pair, found } => differences_answer(alloc, *pair, found, counts),
             Finding::Outcomes(found) => found.entry(alloc),
             Finding::Walks {
-                table,
+                dump,
                 open,
                 packets,
                 found,
-            } => packets_answer(alloc, table, open, packets, found, counts),
+            } => packets_answer(alloc, dump, open, packets, found, counts),
         }
     }
 

@@ -1,2 +1,3 @@
+pub mod OwnVerdictLaws
 pub mod RulesByLinesLaws
 pub mod SectionLineLaws

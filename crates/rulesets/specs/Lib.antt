@@ -1,2 +1,3 @@
 pub mod OpenConditions
+pub mod OwnVerdicts
 pub mod RulesByLines

@@ -1,9 +1,11 @@
 //! A whole dump of which is asked: its table, and what its rules need.
 use crate::conditions::open_conditions::OpenConditions;
+use crate::verdicts::{GivenVerdict, OwnVerdict, OwnVerdicts};
 use dumps::{Conditions, Foreign, ForeignNeed};
 use questions::{BoxedTable, Need, Needs, Subject, needs_left};
+use rules::Rule;
 use std::alloc::{AllocError, Global};
-use table::{Step, Table};
+use table::{Step, Table, Verdict};
 
 /// A table, and what its rules need.
 #[derive(Drop)]
@@ -15,6 +17,8 @@ pub struct Dump {
     needs: Needs,
     // Whether none needs anything.
     is_plain: bool,
+    // Which rules have verdicts of their own.
+    verdicts: OwnVerdicts,
 }
 
 // The needs of a rule, for a question.
@@ -136,8 +140,16 @@ pub fn contradict(needs: &[Need]) -> bool {
     false
 }
 
+/// The rule that stands there, if there is one.
+pub fn rule_at(table: &Table, at: Step) -> Option<&Rule> {
+    if at.chain >= table.chain_count() || at.number == 0 || at.number > table.rule_count(at.chain) {
+        return None;
+    }
+    Some(table.rule(at.chain, at.number))
+}
+
 impl Dump {
-    /// A loaded file with what its rules need, by the answers of `--when`.
+    /// A loaded file with what its rules need, by the answers of `--when`, and their verdicts.
     ///
     /// # Errors
     ///
@@ -145,6 +157,7 @@ impl Dump {
     pub(crate) fn new(
         alloc: Global,
         boxed: BoxedTable,
+        verdicts: OwnVerdicts,
         asked: Vec<Vec<Vec<Need>>>,
         open: &OpenConditions,
     ) -> Result<Dump, AllocError> {
@@ -157,6 +170,7 @@ impl Dump {
             asked,
             needs,
             is_plain,
+            verdicts,
         })
     }
 
@@ -170,6 +184,29 @@ impl Dump {
         &self.boxed.table
     }
 
+    /// How many chains it has.
+    pub fn chain_count(&self) -> usize {
+        self.boxed.table.chain_count()
+    }
+
+    /// How many rules the chain at a place has; none where there is no chain.
+    pub fn rule_count(&self, place: usize) -> usize {
+        let table = &self.boxed.table;
+        if place < table.chain_count() {
+            return table.rule_count(place);
+        }
+        0
+    }
+
+    /// The name of the chain at a place; no bytes where there is none.
+    pub fn chain_name(&self, place: usize) -> &[u8] {
+        let table = &self.boxed.table;
+        if place < table.chain_count() {
+            return table.chain_name(place);
+        }
+        b""
+    }
+
     /// What questions are asked about.
     pub fn subject(&self) -> Subject<'_> {
         Subject {
@@ -178,9 +215,30 @@ impl Dump {
         }
     }
 
+    /// The same with another table, whose rules are those of this one but for what those do that have verdicts of their own.
+    pub fn read_as<'s>(&'s self, boxed: &'s BoxedTable) -> Subject<'s> {
+        Subject {
+            boxed,
+            needs: &self.needs,
+        }
+    }
+
     /// Whether no rule needs anything.
     pub fn is_plain(&self) -> bool {
         self.is_plain
+    }
+
+    /// The rule, if its verdict is its own; it is lent.
+    pub fn own_verdict(&self, at: Step) -> Option<&OwnVerdict> {
+        self.verdicts.at(at)
+    }
+
+    /// What becomes of a packet that gets this verdict from a rule, or else from a policy.
+    pub fn given(&self, verdict: Verdict, by: Option<Step>) -> GivenVerdict<'_> {
+        match by.and_then(|at| self.own_verdict(at)) {
+            Some(own) => GivenVerdict::Own(own.words.as_slice()),
+            None => GivenVerdict::Read(verdict),
+        }
     }
 
     /// What a rule still needs, by the answers of `--when`; it is lent.

@@ -9,7 +9,7 @@ use crate::loading::address_types::{AddressTypes, known_conditions};
 use crate::loading::assumptions::Repeating;
 use crate::loading::line_input::{LINE_MAX, Line};
 use crate::loading::unknown_options::known_options;
-use dumps::{DumpFault, Foreign, OptionTable, Reading, Whole};
+use dumps::{DumpFault, Foreign, LineWord, OptionTable, Reading, Refusal, Whole};
 use fields::{LineEnd, Tap};
 use programs::{Audit, ProgramFault, buffered_input, load_from, open_file};
 use questions::BoxedTable;
@@ -27,17 +27,68 @@ pub(crate) struct Loaded {
     pub(crate) foreign: Foreign,
 }
 
-// Writes why a line of a file was refused, as a restore does.
+// Adds those of some spellings that begin with a word and aren't there yet.
+fn add_beginning<'t>(
+    names: &[&'t [u8]],
+    word: &[u8],
+    found: &mut Vec<&'t [u8]>,
+) -> Result<(), AllocError> {
+    for name in names {
+        if name.starts_with(word) && !found.iter().any(|other| *other == *name) {
+            found.push(*name)?;
+        }
+    }
+    Ok(())
+}
+
+// The long option that a word shortens, if it shortens one alone.
+fn shortened<'t>(
+    alloc: Global,
+    table: OptionTable<'t>,
+    word: &[u8],
+) -> Result<Option<&'t [u8]>, AllocError> {
+    let mut found = Vec::new(alloc);
+    if word.len() <= 2 || !word.starts_with(b"--") {
+        return Ok(None);
+    }
+    for row in table.options {
+        add_beginning(row.names, word, &mut found)?;
+    }
+    match found.as_slice() {
+        [name] => Ok(Some(*name)),
+        _ => Ok(None),
+    }
+}
+
+// The long option that was perhaps meant, where an option isn't known.
+fn meant(
+    alloc: Global,
+    table: OptionTable<'_>,
+    fault: &DumpFault,
+) -> Result<Option<LineWord>, AllocError> {
+    let DumpFault::Refused(Refusal::UnknownOption, word) = fault else {
+        return Ok(None);
+    };
+    match shortened(alloc, table, word.bytes())? {
+        Some(name) => Ok(Some(LineWord::of(alloc, name)?)),
+        None => Ok(None),
+    }
+}
+
+// Writes why a line of a file was refused, as a restore does, and what was perhaps meant.
 fn refused<'a, E: Print>(
     errors: &E,
     file: &'a str,
     number: u64,
     fault: DumpFault,
+    meant: Option<LineWord>,
 ) -> RulesetFault<'a> {
-    if matches!(fault, DumpFault::NoMemory) {
-        return RulesetFault::Program(ProgramFault::NoMemory);
-    }
-    match println!(errors; "line {number}: {fault}") {
+    let written = match (fault, meant) {
+        (DumpFault::NoMemory, _) => return RulesetFault::Program(ProgramFault::NoMemory),
+        (fault, Some(meant)) => println!(errors; "line {number}: {fault}, perhaps {meant}"),
+        (fault, None) => println!(errors; "line {number}: {fault}"),
+    };
+    match written {
         Ok(()) => RulesetFault::CannotRestore(file),
         Err(_) => RulesetFault::Program(ProgramFault::OutputFailed),
     }
@@ -49,6 +100,7 @@ fn read_lines<'a, E: Print, R: BufRead>(
     errors: &E,
     file: &'a str,
     input: &mut Tap<R>,
+    table: OptionTable<'_>,
     reading: &mut Reading<'_>,
 ) -> Result<bool, RulesetFault<'a>> {
     let mut line = Line::new(alloc)?;
@@ -64,7 +116,8 @@ fn read_lines<'a, E: Print, R: BufRead>(
             return Ok(true);
         }
         if let Err(fault) = reading.line(line.bytes()) {
-            return Err(refused(errors, file, number, fault));
+            let meant = meant(alloc, table, &fault)?;
+            return Err(refused(errors, file, number, fault, meant));
         }
     }
     Ok(false)
@@ -92,7 +145,7 @@ where
     let opened = Repeating::new(open_file(rt, file)?, io::writer(errors));
     let mut input = buffered_input(rt.alloc(), opened)?;
     let mut reading = Reading::new(rt.alloc(), table);
-    let is_cut = read_lines(rt.alloc(), errors, file, &mut input, &mut reading)?;
+    let is_cut = read_lines(rt.alloc(), errors, file, &mut input, table, &mut reading)?;
     let Whole { mut text, foreign } = reading.finish();
     if is_cut {
         add_too_long(&mut text)?;

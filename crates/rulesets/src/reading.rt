@@ -3,6 +3,8 @@ use crate::conditions::open_conditions::{OpenConditions, Taken};
 use crate::dump::{Dump, listed_needs};
 use crate::fault::RulesetFault;
 use crate::loading::{Loaded, load_dump};
+use crate::verdicts::OwnVerdicts;
+use crate::verdicts::accepted::TwoVerdicts;
 use dumps::{Conditions, LineWord};
 use programs::Audit;
 use questions::{BoxedTable, Need};
@@ -27,6 +29,8 @@ pub struct TwoDumps {
     pub new: Dump,
     /// The conditions of both.
     pub open: OpenConditions,
+    /// The verdicts of their own in both.
+    pub verdicts: TwoVerdicts,
 }
 
 // What the rules of a file need, whose conditions are numbered among others.
@@ -70,23 +74,37 @@ fn answered<'a>(
     Ok(open)
 }
 
-// A table with the boxes of its rules, and what these need.
+// A table with the boxes of its rules, what these need, and their verdicts.
 #[derive(Drop)]
 struct ListedTable {
     boxed: BoxedTable,
     needs: Vec<Vec<Vec<Need>>>,
+    verdicts: OwnVerdicts,
 }
 
 // What is left of a loaded file once its needs are listed.
-fn listed(loaded: Loaded, needs: Vec<Vec<Vec<Need>>>) -> ListedTable {
-    let Loaded { boxed, foreign: _ } = loaded;
-    ListedTable { boxed, needs }
+fn listed(
+    alloc: Global,
+    loaded: Loaded,
+    needs: Vec<Vec<Vec<Need>>>,
+) -> Result<ListedTable, AllocError> {
+    let Loaded { boxed, foreign } = loaded;
+    let verdicts = OwnVerdicts::of(alloc, &boxed.table, &foreign)?;
+    Ok(ListedTable {
+        boxed,
+        needs,
+        verdicts,
+    })
 }
 
 // The dump of a table.
 fn dump_of(alloc: Global, listed: ListedTable, open: &OpenConditions) -> Result<Dump, AllocError> {
-    let ListedTable { boxed, needs } = listed;
-    Dump::new(alloc, boxed, needs, open)
+    let ListedTable {
+        boxed,
+        needs,
+        verdicts,
+    } = listed;
+    Dump::new(alloc, boxed, verdicts, needs, open)
 }
 
 // The conditions of a loaded file are numbered, and its needs listed.
@@ -119,7 +137,7 @@ where
     let alloc = rt.alloc();
     let loaded = load_dump(rt, errors, file, audit)?;
     let (conditions, needs) = listed_one(alloc, file, &loaded)?;
-    let listed = listed(loaded, needs);
+    let listed = listed(alloc, loaded, needs)?;
     let open = answered(alloc, conditions, false, audit.when.as_slice())?;
     let dump = dump_of(alloc, listed, &open)?;
     Ok(OneDump { dump, open })
@@ -173,21 +191,31 @@ fn listed_two<'a>(
     })
 }
 
-// The dumps of two tables.
-fn two_of(
+// The dumps of two tables, of which the old one's file is named; the text of each rule is read again as it.
+fn two_of<'a>(
     alloc: Global,
+    file: &'a str,
     old: ListedTable,
     new: ListedTable,
     open: OpenConditions,
-) -> Result<TwoDumps, AllocError> {
+) -> Result<TwoDumps, RulesetFault<'a>> {
     let old = dump_of(alloc, old, &open)?;
     let new = dump_of(alloc, new, &open)?;
-    Ok(TwoDumps { old, new, open })
+    match TwoVerdicts::of(alloc, &old, &new, &open)? {
+        Some(verdicts) => Ok(TwoDumps {
+            old,
+            new,
+            open,
+            verdicts,
+        }),
+        None => Err(RulesetFault::CannotRestore(file)),
+    }
 }
 
 // The dumps of two loaded files. What a target sets may differ between them, so that conditions of it can't be compared.
 fn two_loaded<'a>(
     alloc: Global,
+    file: &'a str,
     first: Loaded,
     second: Loaded,
     numbered: Numbered,
@@ -198,13 +226,13 @@ fn two_loaded<'a>(
         old,
         new,
     } = numbered;
-    let (old, new) = (listed(first, old), listed(second, new));
+    let (old, new) = (listed(alloc, first, old)?, listed(alloc, second, new)?);
     let open = answered(alloc, conditions, true, when)?;
     if let Some(condition) = open.first_set() {
         let words = LineWord::of(alloc, open.text(condition))?;
         return Err(RulesetFault::IsSet(words));
     }
-    Ok(two_of(alloc, old, new, open)?)
+    two_of(alloc, file, old, new, open)
 }
 
 /// Reads two files, as the words of the program say, with the answers of `--when`.
@@ -226,5 +254,12 @@ where
     let first = load_dump(rt, errors, old, audit)?;
     let second = load_dump(rt, errors, new, audit)?;
     let numbered = listed_two(rt.alloc(), old, new, &first, &second)?;
-    two_loaded(rt.alloc(), first, second, numbered, audit.when.as_slice())
+    two_loaded(
+        rt.alloc(),
+        old,
+        first,
+        second,
+        numbered,
+        audit.when.as_slice(),
+    )
 }

@@ -54,8 +54,8 @@ export function verdictNode({ verdict, kind, by }, linked = true) {
 /** A verdict of iptaudit's JSON, as verdictNode takes it. */
 export function verdictOf({ verdict, by }) {
   const place = by === undefined ? null : by.policy !== undefined ? "policy" : `${by.chain} ${by.number}`;
-  const [name, kind = null] = verdict.split(" ");
-  return { verdict: name, kind, by: place };
+  const [name, ...words] = verdict.split(" ");
+  return { verdict: name, kind: words.join(" ") || null, by: place };
 }
 
 /** Under which answers something is so. */

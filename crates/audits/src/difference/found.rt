@@ -3,7 +3,7 @@ use crate::each_rule::tally::{Tally, status};
 use crate::walking::walk::Walk;
 use fields::{Hook, Words};
 use questions::Need;
-use rulesets::{Dump, OpenConditions};
+use rulesets::{Dump, OpenConditions, TwoVerdicts};
 
 /// Two dumps.
 #[derive(Clone, Copy)]
@@ -14,6 +14,8 @@ pub struct Pair<'a> {
     pub new: &'a Dump,
     /// The conditions of both.
     pub open: &'a OpenConditions,
+    /// The verdicts of their own in both.
+    pub verdicts: &'a TwoVerdicts,
 }
 
 /// A packet that gets two verdicts where some answers are right, and its walk in each table, if that is known.

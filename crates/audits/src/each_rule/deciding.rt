@@ -1,25 +1,24 @@
 //! What the rules and policies do that decide, and so whether a dead rule is redundant or shadowed.
 use fields::Hook;
 use questions::Takers;
-use rules::{Rule, Target};
+use rules::Target;
+use rulesets::{Dump, GivenVerdict, rule_at};
 use table::{Policy, Step, Table, Verdict};
 
-/// The rule that stands there, if there is one.
-pub fn rule_at(table: &Table, at: Step) -> Option<&Rule> {
-    if at.chain >= table.chain_count() || at.number == 0 || at.number > table.rule_count(at.chain) {
-        return None;
-    }
-    Some(table.rule(at.chain, at.number))
-}
-
-/// The verdict of a rule that decides; none of one that sends packets on.
-pub fn verdict_of(table: &Table, at: Step) -> Option<Verdict> {
+// The verdict of a rule that decides, as the program reads it; none of one that sends packets on.
+fn read_verdict(table: &Table, at: Step) -> Option<Verdict> {
     match rule_at(table, at)?.target() {
         Some(Target::Accept) => Some(Verdict::Accept),
         Some(Target::Drop) => Some(Verdict::Drop),
         Some(Target::Reject(kind)) => Some(Verdict::Reject(kind)),
         Some(Target::Log | Target::Return | Target::Jump(_) | Target::Goto(_)) | None => None,
     }
+}
+
+/// The verdict of a rule that decides, its own or not; none of one that sends packets on.
+pub fn verdict_of(dump: &Dump, at: Step) -> Option<GivenVerdict<'_>> {
+    let verdict = read_verdict(dump.table(), at)?;
+    Some(dump.given(verdict, Some(at)))
 }
 
 /// The verdict of the policy of a hook's chain.
@@ -54,20 +53,25 @@ pub enum Standing {
     Shadowed,
 }
 
-// Whether each rule and each policy that decides gives this verdict.
-fn all_give(table: &Table, takers: &Takers, verdict: Verdict) -> bool {
+// Whether each rule and each policy that decides gives this verdict. No policy gives one that is a target's own.
+fn all_give(dump: &Dump, takers: &Takers, verdict: GivenVerdict<'_>) -> bool {
     for rule in &takers.rules {
-        if verdict_of(table, *rule) != Some(verdict) {
+        if verdict_of(dump, *rule) != Some(verdict) {
             return false;
         }
     }
-    policies_give(table, takers.policies.as_slice(), verdict)
+    match verdict {
+        GivenVerdict::Read(verdict) => {
+            policies_give(dump.table(), takers.policies.as_slice(), verdict)
+        }
+        GivenVerdict::Own(_) => takers.policies.is_empty(),
+    }
 }
 
 /// Whether those who decide a dead rule's packets do what it would do; none of a rule that would decide none.
-pub(crate) fn standing_of(table: &Table, at: Step, takers: &Takers) -> Option<Standing> {
-    let verdict = verdict_of(table, at)?;
-    if all_give(table, takers, verdict) {
+pub(crate) fn standing_of(dump: &Dump, at: Step, takers: &Takers) -> Option<Standing> {
+    let verdict = verdict_of(dump, at)?;
+    if all_give(dump, takers, verdict) {
         return Some(Standing::Redundant);
     }
     Some(Standing::Shadowed)

@@ -5,7 +5,7 @@ use crate::marking::marks::Marks;
 use fields::Words;
 use questions::{Need, Reason};
 use rulesets::{Dump, OpenConditions};
-use table::{Step, Table};
+use table::Step;
 
 /// What is asked of the rules.
 #[derive(Clone, Copy)]
@@ -56,9 +56,9 @@ pub enum Known {
 
 impl Known {
     /// What the rule is beside those who decide its packets, where these are known.
-    pub fn standing(&self, table: &Table, at: Step) -> Option<Standing> {
+    pub fn standing(&self, dump: &Dump, at: Step) -> Option<Standing> {
         match self {
-            Known::Dead(Some(Reason::Taken(takers))) => standing_of(table, at, takers),
+            Known::Dead(Some(Reason::Taken(takers))) => standing_of(dump, at, takers),
             _ => None,
         }
     }

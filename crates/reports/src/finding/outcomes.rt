@@ -10,14 +10,14 @@ use crate::json::outcomes::{outcomes_answer, unclear_answer};
 use crate::lines::outcomes::put_outcomes;
 use fields::{Field, Hook, Tap};
 use questions::Reached;
+use rulesets::Dump;
 use std::alloc::{AllocError, Global};
 use std::io::Write;
-use table::Table;
 
 /// The verdicts of a set of packets at a hook, grouped by a field, if they are known.
 #[derive(Clone, Copy)]
 pub struct Outcomes<'a> {
-    table: &'a Table,
+    dump: &'a Dump,
     hook: Hook,
     field: Field,
     found: &'a Option<Vec<Reached>>,
@@ -27,7 +27,7 @@ pub struct Outcomes<'a> {
 impl<'a> Outcomes<'a> {
     /// The verdicts that were found, if they are known.
     pub fn new(
-        table: &'a Table,
+        dump: &'a Dump,
         hook: Hook,
         field: Field,
         found: &'a Option<Vec<Reached>>,
@@ -35,7 +35,7 @@ impl<'a> Outcomes<'a> {
         requires { IfSome found.now (λ reached. All (λ entry. entry.numbers.top ≡ top field) reached.items) }
     {
         Outcomes {
-            table,
+            dump,
             hook,
             field,
             found,
@@ -53,7 +53,7 @@ impl<'a> Outcomes<'a> {
         output: &mut Tap<W>,
     ) -> Result<(), ReportFault> {
         match self.found {
-            Some(found) => put_outcomes(alloc, self.table, self.field, found.as_slice(), output),
+            Some(found) => put_outcomes(alloc, self.dump, self.field, found.as_slice(), output),
             None => Ok(output.put(b"unclear\n")?),
         }
     }
@@ -66,7 +66,7 @@ impl<'a> Outcomes<'a> {
     pub(crate) fn entry(&self, alloc: Global) -> Result<Answer, AllocError> {
         match self.found {
             Some(found) => {
-                outcomes_answer(alloc, self.table, self.hook, self.field, found.as_slice())
+                outcomes_answer(alloc, self.dump, self.hook, self.field, found.as_slice())
             }
             None => unclear_answer(alloc, self.field),
         }

@@ -6,20 +6,19 @@ use crate::json::memory_text::{packet_text, verdict_text};
 use crate::json::names::{given_by, name_text, rule_name};
 use audits::{Difference, Differing, HookAnswer, Pair, Passed, Walk};
 use fields::Hook;
-use rulesets::{MatchCount, OpenConditions};
+use rulesets::{Dump, MatchCount, OpenConditions};
 use std::alloc::{AllocError, Global};
-use table::Table;
 
 // The rules of a walk, each with what it needs beside the answers.
 fn trail_entries(
     alloc: Global,
-    table: &Table,
+    dump: &Dump,
     open: &OpenConditions,
     rules: &[Passed],
 ) -> Result<Vec<RuleName>, AllocError> {
     let mut names = Vec::new(alloc);
     for rule in rules {
-        let mut name = rule_name(alloc, table, rule.at, None)?;
+        let mut name = rule_name(alloc, dump, rule.at, None)?;
         name.answers = answer_entries(alloc, open, rule.needs.as_slice())?;
         names.push(name)?;
     }
@@ -29,7 +28,7 @@ fn trail_entries(
 // The walk of a packet at a hook.
 fn walk_entry(
     alloc: Global,
-    table: &Table,
+    dump: &Dump,
     open: &OpenConditions,
     hook: Hook,
     walk: &Option<Walk>,
@@ -38,9 +37,9 @@ fn walk_entry(
         return Ok(None);
     };
     Ok(Some(WalkEntry {
-        trail: trail_entries(alloc, table, open, walk.rules.as_slice())?,
-        verdict: verdict_text(alloc, walk.verdict)?,
-        by: given_by(alloc, table, hook, walk.verdict, walk.by)?,
+        trail: trail_entries(alloc, dump, open, walk.rules.as_slice())?,
+        verdict: verdict_text(alloc, dump.given(walk.verdict, walk.by))?,
+        by: given_by(alloc, dump, hook, walk.verdict, walk.by)?,
     }))
 }
 
@@ -66,8 +65,8 @@ fn add_difference(
 ) -> Result<(), AllocError> {
     entry.packet = Some(packet_text(alloc, &found.words)?);
     entry.answers = answer_entries(alloc, pair.open, found.given.as_slice())?;
-    entry.old = walk_entry(alloc, pair.old.table(), pair.open, hook, &found.old)?;
-    entry.new = walk_entry(alloc, pair.new.table(), pair.open, hook, &found.new)?;
+    entry.old = walk_entry(alloc, pair.old, pair.open, hook, &found.old)?;
+    entry.new = walk_entry(alloc, pair.new, pair.open, hook, &found.new)?;
     Ok(())
 }
 

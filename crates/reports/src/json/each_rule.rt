@@ -7,11 +7,9 @@ use crate::json::document::{
 use crate::json::memory_text::{packet_text, rule_text};
 use crate::json::names::name_text;
 use crate::json::reason_entry::reason_entry;
-use crate::lines::rule_line::chain_name;
 use audits::{Form, Found, FoundRule, Inquiry, Known, Standing};
-use rulesets::{MatchCount, OpenConditions};
+use rulesets::{Dump, MatchCount, OpenConditions};
 use std::alloc::{AllocError, Global};
-use table::Table;
 
 // What is known of a rule, in one word.
 fn life_word(form: Form<'_>, known: &Known) -> LifeWord {
@@ -35,21 +33,21 @@ fn standing_word(standing: Standing) -> StandingWord {
 // A rule, without its conditions, and without its packet and the reason why it is dead.
 fn bare_entry(
     alloc: Global,
-    table: &Table,
+    dump: &Dump,
     inquiry: Inquiry<'_>,
     rule: &FoundRule,
 ) -> Result<RuleEntry, AllocError> {
-    let chain = name_text(alloc, chain_name(table, rule.at.chain))?;
+    let chain = name_text(alloc, dump.chain_name(rule.at.chain))?;
     Ok(RuleEntry {
         chain,
         number: rule.at.number,
-        rule: rule_text(alloc, table, rule.at)?,
+        rule: rule_text(alloc, dump, rule.at)?,
         needs: Vec::new(alloc),
         life: life_word(inquiry.form, &rule.known),
         answers: Vec::new(alloc),
         packet: None,
         reason: None,
-        standing: rule.known.standing(table, rule.at).map(standing_word),
+        standing: rule.known.standing(dump, rule.at).map(standing_word),
     })
 }
 
@@ -76,13 +74,9 @@ fn packet_of(alloc: Global, known: &Known) -> Result<Option<String>, AllocError>
 }
 
 // Why a rule is dead, where that is known and was asked.
-fn reason_of(
-    alloc: Global,
-    table: &Table,
-    known: &Known,
-) -> Result<Option<ReasonEntry>, AllocError> {
+fn reason_of(alloc: Global, dump: &Dump, known: &Known) -> Result<Option<ReasonEntry>, AllocError> {
     match known {
-        Known::Dead(Some(reason)) => Ok(Some(reason_entry(alloc, table, reason)?)),
+        Known::Dead(Some(reason)) => Ok(Some(reason_entry(alloc, dump, reason)?)),
         Known::Unmet => Ok(Some(ReasonEntry::Unmet)),
         _ => Ok(None),
     }
@@ -91,7 +85,7 @@ fn reason_of(
 // Adds what an entry has beside the rule's name and text.
 fn complete(
     alloc: Global,
-    table: &Table,
+    dump: &Dump,
     inquiry: Inquiry<'_>,
     rule: &FoundRule,
     entry: &mut RuleEntry,
@@ -99,32 +93,32 @@ fn complete(
     entry.needs = answer_entries(alloc, inquiry.open, inquiry.dump.asked_by(rule.at))?;
     entry.answers = answers_of(alloc, inquiry.open, &rule.known)?;
     entry.packet = packet_of(alloc, &rule.known)?;
-    entry.reason = reason_of(alloc, table, &rule.known)?;
+    entry.reason = reason_of(alloc, dump, &rule.known)?;
     Ok(())
 }
 
 // What is known of a rule.
 fn rule_entry(
     alloc: Global,
-    table: &Table,
+    dump: &Dump,
     inquiry: Inquiry<'_>,
     rule: &FoundRule,
 ) -> Result<RuleEntry, AllocError> {
-    let mut entry = bare_entry(alloc, table, inquiry, rule)?;
-    complete(alloc, table, inquiry, rule, &mut entry)?;
+    let mut entry = bare_entry(alloc, dump, inquiry, rule)?;
+    complete(alloc, dump, inquiry, rule, &mut entry)?;
     Ok(entry)
 }
 
 // What is known of each of some rules.
 fn rule_entries(
     alloc: Global,
-    table: &Table,
+    dump: &Dump,
     inquiry: Inquiry<'_>,
     found: &Found,
 ) -> Result<Vec<RuleEntry>, AllocError> {
     let mut rules = Vec::new(alloc);
     for rule in found.rules.as_slice() {
-        rules.push(rule_entry(alloc, table, inquiry, rule)?)?;
+        rules.push(rule_entry(alloc, dump, inquiry, rule)?)?;
     }
     Ok(rules)
 }
@@ -164,8 +158,8 @@ pub(crate) fn rules_answer(
     found: &Found,
     counts: &[MatchCount],
 ) -> Result<Answer, AllocError> {
-    let table = inquiry.dump.table();
-    let rules = rule_entries(alloc, table, inquiry, found)?;
+    let dump = inquiry.dump;
+    let rules = rule_entries(alloc, dump, inquiry, found)?;
     let open = open_entries(alloc, inquiry.open, counts)?;
     answer_of(alloc, inquiry.form, found, rules, open)
 }

@@ -4,9 +4,9 @@ use crate::lines::packet_line::put_packet;
 use crate::lines::rule_line::put_listed;
 use crate::lines::verdict_line::put_verdict;
 use fields::{Tap, Words};
-use rulesets::bytes_of;
+use rulesets::{Dump, GivenVerdict, bytes_of};
 use std::alloc::{AllocError, Global};
-use table::{Step, Table, Verdict};
+use table::Step;
 
 // The text of a line.
 fn line_text(alloc: Global, line: Tap<Vec<u8>>) -> Result<String, AllocError> {
@@ -18,9 +18,9 @@ fn line_text(alloc: Global, line: Tap<Vec<u8>>) -> Result<String, AllocError> {
 /// # Errors
 ///
 /// `AllocError` where memory was refused.
-pub(crate) fn rule_text(alloc: Global, table: &Table, at: Step) -> Result<String, AllocError> {
+pub(crate) fn rule_text(alloc: Global, dump: &Dump, at: Step) -> Result<String, AllocError> {
     let mut line = Tap::new(Vec::new(alloc));
-    let _ = put_listed(table, at, &mut line);
+    let _ = put_listed(dump, at, &mut line);
     line_text(alloc, line)
 }
 
@@ -35,12 +35,12 @@ pub(crate) fn packet_text(alloc: Global, words: &Words) -> Result<String, AllocE
     line_text(alloc, line)
 }
 
-/// A verdict: `ACCEPT`, or `REJECT icmp-port-unreachable`.
+/// A verdict: `ACCEPT`, `REJECT icmp-port-unreachable`, or a target's own.
 ///
 /// # Errors
 ///
 /// `AllocError` where memory was refused.
-pub(crate) fn verdict_text(alloc: Global, verdict: Verdict) -> Result<String, AllocError> {
+pub(crate) fn verdict_text(alloc: Global, verdict: GivenVerdict<'_>) -> Result<String, AllocError> {
     let mut line = Tap::new(Vec::new(alloc));
     let _ = put_verdict(verdict, &mut line);
     line_text(alloc, line)

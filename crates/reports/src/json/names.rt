@@ -1,10 +1,10 @@
 //! Names, rules and policies in a document. Bytes that are no UTF-8 become U+FFFD.
 use crate::json::document::{DeciderEntry, RuleName};
 use crate::json::memory_text::verdict_text;
-use crate::lines::rule_line::chain_name;
 use fields::Hook;
+use rulesets::{Dump, GivenVerdict};
 use std::alloc::{AllocError, Global};
-use table::{Step, Table, Verdict};
+use table::{Step, Verdict};
 
 /// A name.
 ///
@@ -22,12 +22,12 @@ pub(crate) fn name_text(alloc: Global, name: &[u8]) -> Result<String, AllocError
 /// `AllocError` where memory was refused.
 pub(crate) fn rule_name(
     alloc: Global,
-    table: &Table,
+    dump: &Dump,
     at: Step,
-    verdict: Option<Verdict>,
+    verdict: Option<GivenVerdict<'_>>,
 ) -> Result<RuleName, AllocError> {
     Ok(RuleName {
-        chain: name_text(alloc, chain_name(table, at.chain))?,
+        chain: name_text(alloc, dump.chain_name(at.chain))?,
         number: at.number,
         answers: Vec::new(alloc),
         verdict: match verdict {
@@ -44,12 +44,12 @@ pub(crate) fn rule_name(
 /// `AllocError` where memory was refused.
 pub(crate) fn rule_names(
     alloc: Global,
-    table: &Table,
+    dump: &Dump,
     rules: &[Step],
 ) -> Result<Vec<RuleName>, AllocError> {
     let mut names = Vec::new(alloc);
     for rule in rules {
-        names.push(rule_name(alloc, table, *rule, None)?)?;
+        names.push(rule_name(alloc, dump, *rule, None)?)?;
     }
     Ok(names)
 }
@@ -61,12 +61,12 @@ pub(crate) fn rule_names(
 /// `AllocError` where memory was refused.
 pub(crate) fn decider_entry(
     alloc: Global,
-    table: &Table,
+    dump: &Dump,
     hook: Hook,
     rule: Option<Step>,
 ) -> Result<DeciderEntry, AllocError> {
     match rule {
-        Some(rule) => Ok(DeciderEntry::Rule(rule_name(alloc, table, rule, None)?)),
+        Some(rule) => Ok(DeciderEntry::Rule(rule_name(alloc, dump, rule, None)?)),
         None => Ok(DeciderEntry::Policy {
             policy: name_text(alloc, hook.name())?,
         }),
@@ -80,7 +80,7 @@ pub(crate) fn decider_entry(
 /// `AllocError` where memory was refused.
 pub(crate) fn given_by(
     alloc: Global,
-    table: &Table,
+    dump: &Dump,
     hook: Hook,
     verdict: Verdict,
     by: Option<Step>,
@@ -88,5 +88,5 @@ pub(crate) fn given_by(
     if verdict == Verdict::TooLong {
         return Ok(None);
     }
-    Ok(Some(decider_entry(alloc, table, hook, by)?))
+    Ok(Some(decider_entry(alloc, dump, hook, by)?))
 }

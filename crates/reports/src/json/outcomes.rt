@@ -8,8 +8,8 @@ use crate::json::names::{decider_entry, name_text};
 use fields::{Field, Hook};
 use notation::set_text;
 use questions::Reached;
+use rulesets::Dump;
 use std::alloc::{AllocError, Global};
-use table::Table;
 
 // The numbers of a set on a field.
 fn numbers_text(alloc: Global, field: Field, reached: &Reached) -> Result<String, AllocError>
@@ -22,7 +22,7 @@ fn numbers_text(alloc: Global, field: Field, reached: &Reached) -> Result<String
 // A verdict with what gives it, and the numbers of its packets.
 fn outcome_entry(
     alloc: Global,
-    table: &Table,
+    dump: &Dump,
     hook: Hook,
     field: Field,
     reached: &Reached,
@@ -30,9 +30,9 @@ fn outcome_entry(
     requires { reached.now.numbers.top ≡ top field }
 {
     let numbers = numbers_text(alloc, field, reached)?;
-    let by = decider_entry(alloc, table, hook, reached.by)?;
+    let by = decider_entry(alloc, dump, hook, reached.by)?;
     Ok(OutcomeEntry {
-        verdict: verdict_text(alloc, reached.verdict)?,
+        verdict: verdict_text(alloc, dump.given(reached.verdict, reached.by))?,
         by,
         numbers,
     })
@@ -41,7 +41,7 @@ fn outcome_entry(
 // Each verdict.
 fn outcome_entries(
     alloc: Global,
-    table: &Table,
+    dump: &Dump,
     hook: Hook,
     field: Field,
     found: &[Reached],
@@ -50,7 +50,7 @@ fn outcome_entries(
 {
     let mut outcomes = Vec::new(alloc);
     for reached in found {
-        outcomes.push(outcome_entry(alloc, table, hook, field, reached)?)?;
+        outcomes.push(outcome_entry(alloc, dump, hook, field, reached)?)?;
     }
     Ok(outcomes)
 }
@@ -62,14 +62,14 @@ fn outcome_entries(
 /// `AllocError` where memory was refused.
 pub(crate) fn outcomes_answer(
     alloc: Global,
-    table: &Table,
+    dump: &Dump,
     hook: Hook,
     field: Field,
     found: &[Reached],
 ) -> Result<Answer, AllocError>
     requires { All (λ reached. reached.numbers.top ≡ top field) found.now }
 {
-    let outcomes = outcome_entries(alloc, table, hook, field, found)?;
+    let outcomes = outcome_entries(alloc, dump, hook, field, found)?;
     Ok(Answer::Reach {
         field: name_text(alloc, field.name())?,
         outcomes,

@@ -5,23 +5,22 @@ use crate::json::memory_text::verdict_text;
 use crate::json::names::{given_by, name_text};
 use audits::{Branch, GivenPacket, PacketWalks};
 use fields::Hook;
-use rulesets::{MatchCount, OpenConditions};
+use rulesets::{Dump, MatchCount, OpenConditions};
 use std::alloc::{AllocError, Global};
-use table::Table;
 
 // What becomes of a packet under some answers.
 fn end_entry(
     alloc: Global,
-    table: &Table,
+    dump: &Dump,
     open: &OpenConditions,
     hook: Hook,
     branch: &Branch,
 ) -> Result<EndEntry, AllocError> {
     let answers = answer_entries(alloc, open, branch.given.as_slice())?;
-    let by = given_by(alloc, table, hook, branch.verdict, branch.by)?;
+    let by = given_by(alloc, dump, hook, branch.verdict, branch.by)?;
     Ok(EndEntry {
         answers,
-        verdict: verdict_text(alloc, branch.verdict)?,
+        verdict: verdict_text(alloc, dump.given(branch.verdict, branch.by))?,
         by,
     })
 }
@@ -29,14 +28,14 @@ fn end_entry(
 // What becomes of a packet, by answers.
 fn end_entries(
     alloc: Global,
-    table: &Table,
+    dump: &Dump,
     open: &OpenConditions,
     hook: Hook,
     branches: &[Branch],
 ) -> Result<Vec<EndEntry>, AllocError> {
     let mut walks = Vec::new(alloc);
     for branch in branches {
-        walks.push(end_entry(alloc, table, open, hook, branch)?)?;
+        walks.push(end_entry(alloc, dump, open, hook, branch)?)?;
     }
     Ok(walks)
 }
@@ -53,7 +52,7 @@ fn bare_entry(alloc: Global, given: &GivenPacket) -> Result<PacketEntry, AllocEr
 // Adds what becomes of a packet, if it is known.
 fn complete(
     alloc: Global,
-    table: &Table,
+    dump: &Dump,
     open: &OpenConditions,
     hook: Hook,
     branches: &Option<Vec<Branch>>,
@@ -61,7 +60,7 @@ fn complete(
 ) -> Result<(), AllocError> {
     match branches {
         Some(branches) => {
-            entry.walks = Some(end_entries(alloc, table, open, hook, branches.as_slice())?);
+            entry.walks = Some(end_entries(alloc, dump, open, hook, branches.as_slice())?);
         }
         None => entry.unclear = Some(true),
     }
@@ -71,28 +70,28 @@ fn complete(
 // What becomes of a packet.
 fn packet_entry(
     alloc: Global,
-    table: &Table,
+    dump: &Dump,
     open: &OpenConditions,
     given: &GivenPacket,
     branches: &Option<Vec<Branch>>,
 ) -> Result<PacketEntry, AllocError> {
     let hook = given.packet.packet().hook();
     let mut entry = bare_entry(alloc, given)?;
-    complete(alloc, table, open, hook, branches, &mut entry)?;
+    complete(alloc, dump, open, hook, branches, &mut entry)?;
     Ok(entry)
 }
 
 // What becomes of each packet.
 fn packet_entries(
     alloc: Global,
-    table: &Table,
+    dump: &Dump,
     open: &OpenConditions,
     packets: &[GivenPacket],
     found: &PacketWalks,
 ) -> Result<Vec<PacketEntry>, AllocError> {
     let mut entries = Vec::new(alloc);
     for (given, branches) in packets.iter().zip(found.branches.iter()) {
-        entries.push(packet_entry(alloc, table, open, given, branches)?)?;
+        entries.push(packet_entry(alloc, dump, open, given, branches)?)?;
     }
     Ok(entries)
 }
@@ -104,13 +103,13 @@ fn packet_entries(
 /// `AllocError` where memory was refused.
 pub(crate) fn packets_answer(
     alloc: Global,
-    table: &Table,
+    dump: &Dump,
     open: &OpenConditions,
     packets: &[GivenPacket],
     found: &PacketWalks,
     counts: &[MatchCount],
 ) -> Result<Answer, AllocError> {
-    let packets = packet_entries(alloc, table, open, packets, found)?;
+    let packets = packet_entries(alloc, dump, open, packets, found)?;
     Ok(Answer::Walk {
         packets,
         open: open_entries(alloc, open, counts)?,

@@ -5,25 +5,26 @@ use crate::json::names::{name_text, rule_name, rule_names};
 use audits::{policy_of, verdict_of};
 use fields::Hook;
 use questions::Reason;
+use rulesets::{Dump, GivenVerdict};
 use std::alloc::{AllocError, Global};
-use table::{Step, Table};
+use table::Step;
 
 // Rules that take packets, with what each does that decides.
-fn takers(alloc: Global, table: &Table, rules: &[Step]) -> Result<Vec<RuleName>, AllocError> {
+fn takers(alloc: Global, dump: &Dump, rules: &[Step]) -> Result<Vec<RuleName>, AllocError> {
     let mut names = Vec::new(alloc);
     for rule in rules {
-        names.push(rule_name(alloc, table, *rule, verdict_of(table, *rule))?)?;
+        names.push(rule_name(alloc, dump, *rule, verdict_of(dump, *rule))?)?;
     }
     Ok(names)
 }
 
 // Policies that decide.
-fn policies(alloc: Global, table: &Table, hooks: &[Hook]) -> Result<Vec<PolicyEntry>, AllocError> {
+fn policies(alloc: Global, dump: &Dump, hooks: &[Hook]) -> Result<Vec<PolicyEntry>, AllocError> {
     let mut policies = Vec::new(alloc);
     for hook in hooks {
         policies.push(PolicyEntry {
             chain: name_text(alloc, hook.name())?,
-            verdict: verdict_text(alloc, policy_of(table, *hook))?,
+            verdict: verdict_text(alloc, GivenVerdict::Read(policy_of(dump.table(), *hook)))?,
         })?;
     }
     Ok(policies)
@@ -36,7 +37,7 @@ fn policies(alloc: Global, table: &Table, hooks: &[Hook]) -> Result<Vec<PolicyEn
 /// `AllocError` where memory was refused.
 pub(crate) fn reason_entry(
     alloc: Global,
-    table: &Table,
+    dump: &Dump,
     reason: &Reason,
 ) -> Result<ReasonEntry, AllocError> {
     Ok(match reason {
@@ -46,11 +47,11 @@ pub(crate) fn reason_entry(
         Reason::Unreached => ReasonEntry::Unreached,
         Reason::NoPacket => ReasonEntry::NoPacket,
         Reason::Excluded(ways) => ReasonEntry::Excluded {
-            rules: rule_names(alloc, table, ways.as_slice())?,
+            rules: rule_names(alloc, dump, ways.as_slice())?,
         },
         Reason::Taken(found) => ReasonEntry::Taken {
-            rules: takers(alloc, table, found.rules.as_slice())?,
-            policies: policies(alloc, table, found.policies.as_slice())?,
+            rules: takers(alloc, dump, found.rules.as_slice())?,
+            policies: policies(alloc, dump, found.policies.as_slice())?,
         },
     })
 }

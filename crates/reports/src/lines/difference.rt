@@ -6,21 +6,20 @@ use crate::lines::tally::put_changes;
 use crate::lines::walk_text::put_walk;
 use audits::{Difference, Differing, HookAnswer, HookLikeness, Pair, Walk};
 use fields::{Tap, WriteFailed};
-use rulesets::{MatchCount, OpenConditions};
+use rulesets::{Dump, MatchCount, OpenConditions};
 use std::io::Write;
-use table::Table;
 
 // Writes what a table does with a packet, below a heading.
 fn put_side<W: Write>(
     heading: &[u8],
-    table: &Table,
+    dump: &Dump,
     open: &OpenConditions,
     walk: &Option<Walk>,
     output: &mut Tap<W>,
 ) -> Result<(), WriteFailed> {
     output.put(heading)?;
     match walk {
-        Some(walk) => put_walk(table, open, walk, output),
+        Some(walk) => put_walk(dump, open, walk, output),
         None => output.put(b"unclear\n"),
     }
 }
@@ -34,8 +33,8 @@ fn put_difference<W: Write>(
     put_packet(&found.words, output)?;
     output.put(b"\n")?;
     put_if(pair.open, b"", found.given.as_slice(), output)?;
-    put_side(b"old:\n", pair.old.table(), pair.open, &found.old, output)?;
-    put_side(b"new:\n", pair.new.table(), pair.open, &found.new, output)
+    put_side(b"old:\n", pair.old, pair.open, &found.old, output)?;
+    put_side(b"new:\n", pair.new, pair.open, &found.new, output)
 }
 
 // Writes what is known of the packets at a hook.

@@ -8,9 +8,8 @@ use crate::lines::tally::{put_coverage, put_tally};
 use audits::{Form, Found, FoundRule, Inquiry, Known};
 use fields::{Tap, Words, WriteFailed};
 use questions::Need;
-use rulesets::MatchCount;
+use rulesets::{Dump, MatchCount};
 use std::io::Write;
-use table::Table;
 
 // What stands before a rule of which this is known; there is no line of a rule that matches a packet that was given whichever answers are
 // right, nor of a live one where dead ones are asked for.
@@ -53,7 +52,7 @@ fn put_live<W: Write>(
 
 // Writes what is known of a rule: its line, and the packet that matches it or why it is dead.
 fn put_found<W: Write>(
-    table: &Table,
+    dump: &Dump,
     inquiry: Inquiry<'_>,
     rule: &FoundRule,
     output: &mut Tap<W>,
@@ -61,12 +60,12 @@ fn put_found<W: Write>(
     let Some(before) = words_before(inquiry.form, &rule.known) else {
         return Ok(());
     };
-    put_rule(table, before, rule.at, output)?;
+    put_rule(dump, before, rule.at, output)?;
     put_asked(inquiry.open, inquiry.dump.asked_by(rule.at), output)?;
     output.put(b"\n")?;
     match &rule.known {
         Known::Live(words, given) => put_live(inquiry, words, given.as_slice(), output),
-        Known::Dead(Some(reason)) => put_reason(table, rule.at.chain, reason, output),
+        Known::Dead(Some(reason)) => put_reason(dump, rule.at.chain, reason, output),
         Known::Covered(given) => put_if(inquiry.open, b"", given.as_slice(), output),
         Known::Unmet => output.put(b"  no answers meet its conditions\n"),
         Known::Dead(None) | Known::Unclear => Ok(()),
@@ -84,9 +83,9 @@ pub(crate) fn put_rules<W: Write>(
     counts: &[MatchCount],
     output: &mut Tap<W>,
 ) -> Result<(), WriteFailed> {
-    let table = inquiry.dump.table();
+    let dump = inquiry.dump;
     for rule in found.rules.as_slice() {
-        put_found(table, inquiry, rule, output)?;
+        put_found(dump, inquiry, rule, output)?;
     }
     match inquiry.form {
         Form::Dead => put_tally(&found.tally, output)?,

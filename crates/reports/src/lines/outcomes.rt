@@ -8,9 +8,10 @@ use crate::lines::verdict_line::put_verdict;
 use fields::{Field, Tap, WriteFailed};
 use notation::set_text;
 use questions::Reached;
+use rulesets::Dump;
 use std::alloc::Global;
 use std::io::Write;
-use table::{Step, Table};
+use table::Step;
 
 /// Writes what decides: `policy`, or a rule as `INPUT 3`.
 ///
@@ -18,12 +19,12 @@ use table::{Step, Table};
 ///
 /// `WriteFailed` where a write failed.
 pub(crate) fn put_decider<W: Write>(
-    table: &Table,
+    dump: &Dump,
     by: Option<Step>,
     output: &mut Tap<W>,
 ) -> Result<(), WriteFailed> {
     match by {
-        Some(step) => put_rule_name(table, step, output),
+        Some(step) => put_rule_name(dump, step, output),
         None => output.put(b"policy"),
     }
 }
@@ -36,7 +37,7 @@ pub(crate) fn put_decider<W: Write>(
 /// Where memory was refused, or a write failed.
 pub(crate) fn put_outcomes<W: Write>(
     alloc: Global,
-    table: &Table,
+    dump: &Dump,
     field: Field,
     found: &[Reached],
     output: &mut Tap<W>,
@@ -45,9 +46,9 @@ pub(crate) fn put_outcomes<W: Write>(
 {
     for reached in found {
         let numbers = set_text(alloc, field, &reached.numbers)?;
-        put_verdict(reached.verdict, output)?;
+        put_verdict(dump.given(reached.verdict, reached.by), output)?;
         output.put(b" by ")?;
-        put_decider(table, reached.by, output)?;
+        put_decider(dump, reached.by, output)?;
         output.put_all(&[b": ", numbers.as_slice(), b"\n"])?;
     }
     Ok(())

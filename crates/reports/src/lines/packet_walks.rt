@@ -5,22 +5,18 @@ use crate::lines::outcomes::put_decider;
 use crate::lines::verdict_line::put_verdict;
 use audits::{Branch, GivenPacket, PacketWalks};
 use fields::{Tap, WriteFailed};
-use rulesets::{MatchCount, OpenConditions};
+use rulesets::{Dump, MatchCount, OpenConditions};
 use std::io::Write;
-use table::{Table, Verdict};
+use table::Verdict;
 
 // Writes what becomes of a packet: `ACCEPT by INPUT 3`.
-fn put_end<W: Write>(
-    table: &Table,
-    branch: &Branch,
-    output: &mut Tap<W>,
-) -> Result<(), WriteFailed> {
-    put_verdict(branch.verdict, output)?;
+fn put_end<W: Write>(dump: &Dump, branch: &Branch, output: &mut Tap<W>) -> Result<(), WriteFailed> {
+    put_verdict(dump.given(branch.verdict, branch.by), output)?;
     if branch.verdict == Verdict::TooLong {
         return Ok(());
     }
     output.put(b" by ")?;
-    put_decider(table, branch.by, output)
+    put_decider(dump, branch.by, output)
 }
 
 // Whether no condition has to hold for a branch.
@@ -62,7 +58,7 @@ fn put_conditions<W: Write>(
 
 // Writes branches that end alike.
 fn put_alike<W: Write>(
-    table: &Table,
+    dump: &Dump,
     open: &OpenConditions,
     branches: &[Branch],
     output: &mut Tap<W>,
@@ -73,7 +69,7 @@ fn put_alike<W: Write>(
     if !are_bare(branches) {
         put_conditions(open, branches, output)?;
     }
-    put_end(table, first, output)
+    put_end(dump, first, output)
 }
 
 // How many branches, the first among them, end as it does.
@@ -93,7 +89,7 @@ fn count_alike(branches: &[Branch]) -> usize {
 
 // Writes branches, of which the first whose conditions hold is right. Neighbours that end alike stand together.
 fn put_branches<W: Write>(
-    table: &Table,
+    dump: &Dump,
     open: &OpenConditions,
     branches: &[Branch],
     output: &mut Tap<W>,
@@ -107,7 +103,7 @@ fn put_branches<W: Write>(
         }
         let (alike, others) = rest.split_at(count);
         output.put(before)?;
-        put_alike(table, open, alike, output)?;
+        put_alike(dump, open, alike, output)?;
         before = b"; else ";
         rest = others;
     }
@@ -120,7 +116,7 @@ fn put_branches<W: Write>(
 ///
 /// `WriteFailed` where a write failed.
 pub(crate) fn put_packets<W: Write>(
-    table: &Table,
+    dump: &Dump,
     open: &OpenConditions,
     packets: &[GivenPacket],
     found: &PacketWalks,
@@ -130,7 +126,7 @@ pub(crate) fn put_packets<W: Write>(
     for (given, branches) in packets.iter().zip(found.branches.iter()) {
         output.put_all(&[given.line.as_slice(), b"\n"])?;
         match branches {
-            Some(branches) => put_branches(table, open, branches.as_slice(), output)?,
+            Some(branches) => put_branches(dump, open, branches.as_slice(), output)?,
             None => output.put(b"  unclear\n")?,
         }
     }

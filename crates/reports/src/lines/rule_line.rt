@@ -1,19 +1,9 @@
 //! The line of a rule.
-use audits::rule_at;
 use fields::{Tap, WriteFailed};
 use rules::write_rule;
-use rulesets::put_number;
+use rulesets::{Dump, put_number, rule_at};
 use std::io::Write;
-use table::{Step, Table};
-
-/// The name of the chain at a place; no bytes where there is none.
-pub(crate) fn chain_name(table: &Table, place: usize) -> &[u8] {
-    if place < table.chain_count() {
-        table.chain_name(place)
-    } else {
-        b""
-    }
-}
+use table::Step;
 
 /// Writes a rule by its chain and its number there: `INPUT 2`.
 ///
@@ -21,30 +11,31 @@ pub(crate) fn chain_name(table: &Table, place: usize) -> &[u8] {
 ///
 /// `WriteFailed` where a write failed.
 pub(crate) fn put_rule_name<W: Write>(
-    table: &Table,
+    dump: &Dump,
     at: Step,
     output: &mut Tap<W>,
 ) -> Result<(), WriteFailed> {
-    output.put(chain_name(table, at.chain))?;
+    output.put(dump.chain_name(at.chain))?;
     put_number(b" ", at.number, b"", output)
 }
 
-/// Writes a rule as it is listed: `-A INPUT -j DROP`.
+/// Writes a rule as it is listed: `-A INPUT -j DROP`; and a verdict of its own as it was read.
 ///
 /// # Errors
 ///
 /// `WriteFailed` where a write failed.
 pub(crate) fn put_listed<W: Write>(
-    table: &Table,
+    dump: &Dump,
     at: Step,
     output: &mut Tap<W>,
 ) -> Result<(), WriteFailed> {
-    match rule_at(table, at) {
-        Some(rule) => {
-            output.put_all(&[b"-A ", chain_name(table, at.chain)])?;
-            write_rule(rule, output)
-        }
-        None => Ok(()),
+    let Some(rule) = rule_at(dump.table(), at) else {
+        return Ok(());
+    };
+    output.put_all(&[b"-A ", dump.chain_name(at.chain)])?;
+    match dump.own_verdict(at) {
+        Some(own) => output.put_all(&[own.before.as_slice(), b" -j ", own.words.as_slice()]),
+        None => write_rule(rule, output),
     }
 }
 
@@ -54,13 +45,13 @@ pub(crate) fn put_listed<W: Write>(
 ///
 /// `WriteFailed` where a write failed.
 pub(crate) fn put_rule<W: Write>(
-    table: &Table,
+    dump: &Dump,
     before: &[u8],
     at: Step,
     output: &mut Tap<W>,
 ) -> Result<(), WriteFailed> {
     output.put(before)?;
-    put_rule_name(table, at, output)?;
+    put_rule_name(dump, at, output)?;
     output.put(b" ")?;
-    put_listed(table, at, output)
+    put_listed(dump, at, output)
 }

@@ -4,18 +4,18 @@ use crate::lines::rule_line::put_rule_name;
 use crate::lines::verdict_line::put_verdict;
 use audits::{Passed, Walk};
 use fields::{Tap, WriteFailed};
-use rulesets::OpenConditions;
+use rulesets::{Dump, OpenConditions};
 use std::io::Write;
-use table::{Table, Verdict};
+use table::Verdict;
 
 // Writes the line of a rule that matches, with what it needs beside the answers: `INPUT 3 if limit --limit 3/min in INPUT`.
 fn put_passed<W: Write>(
-    table: &Table,
+    dump: &Dump,
     open: &OpenConditions,
     rule: &Passed,
     output: &mut Tap<W>,
 ) -> Result<(), WriteFailed> {
-    put_rule_name(table, rule.at, output)?;
+    put_rule_name(dump, rule.at, output)?;
     if !rule.needs.is_empty() {
         output.put(b" if ")?;
         put_given(open, rule.needs.as_slice(), output)?;
@@ -29,16 +29,16 @@ fn put_passed<W: Write>(
 ///
 /// `WriteFailed` where a write failed.
 pub(crate) fn put_walk<W: Write>(
-    table: &Table,
+    dump: &Dump,
     open: &OpenConditions,
     walk: &Walk,
     output: &mut Tap<W>,
 ) -> Result<(), WriteFailed> {
     for rule in walk.rules.as_slice() {
-        put_passed(table, open, rule, output)?;
+        put_passed(dump, open, rule, output)?;
     }
     output.put(b"verdict ")?;
-    put_verdict(walk.verdict, output)?;
+    put_verdict(dump.given(walk.verdict, walk.by), output)?;
     output.put(match walk.by {
         Some(_) => b" by rule\n".as_slice(),
         None if walk.verdict == Verdict::TooLong => b"\n",

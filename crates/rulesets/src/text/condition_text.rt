@@ -1,7 +1,6 @@
 //! A condition with its place, as text.
 use crate::conditions::open_conditions::{OpenConditions, Place};
-use crate::text::memory_line::bytes_of;
-use crate::text::number_text::put_number;
+use crate::text::{bytes_of, put_number};
 use fields::{Tap, WriteFailed};
 use std::alloc::{AllocError, Global};
 use std::io::Write;

@@ -1,4 +1,4 @@
-"""iptaudit with --json: the words, the files, standard input, the status, and the document that is due, to the byte."""
+"""What iptaudit writes to the byte: its help and that of its subcommands; of whole dumps, whose rules have conditions that it doesn't know; and with --json."""
 
 import json
 
@@ -12,6 +12,11 @@ def compact(text):
 
 
 RUNS = [run._replace(output=compact(run.output)) for run in runs_in("programs/audited/documents.runs")]
+
+
+@each(runs_in("programs/audited/whole.runs"))
+def test_whole(row, iptaudit):
+    iptaudit.check(row)
 
 
 @each(RUNS)
