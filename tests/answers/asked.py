@@ -181,20 +181,22 @@ def expect_cover(audit, file, drawn, ruleset, found, dead):
 
 def number_of(field, text):
     if field == "flags":
-        return sum(1 << ("FIN", "SYN", "RST", "PSH", "ACK", "URG").index(name) for name in text.split(",") if name != "NONE")
+        return sum(1 << ("FIN", "SYN", "RST", "PSH", "ACK", "URG").index(name) for name in text.split("+") if name != "NONE")
     kind, _, code = text.partition("/")
     return int(kind) * 256 + int(code or 0) if field == "icmp" else int(text)
 
 
-def has(field, text, number):
-    if text == "all":
+def has(field, word, number):
+    denies = word.startswith(f"{field}!=")
+    text = word.removeprefix(f"{field}!=" if denies else f"{field}=")
+    if text == "any":
         return True
-    for part in text.removeprefix("not ").split(", "):
+    for part in text.split(","):
         first, _, last = part.partition("-" if field == "icmp" else ":")
         end = number_of(field, last or first) + (255 if field == "icmp" and "/" not in first and not last else 0)
         if number_of(field, first) <= number <= end:
-            return not text.startswith("not ")
-    return text.startswith("not ")
+            return not denies
+    return denies
 
 
 def given_words(drawn):

@@ -9,7 +9,7 @@ pub(crate) mod progress;
 use crate::asking::progress::Progress;
 use fields::{Field, Hook};
 use questions::{
-    Answers, BoxedTable, Changes, Coming, End, Given, Leaf, Life, Likeness, Reached, Reason,
+    Answers, BoxedTable, Changes, Coming, End, GivenPackets, Leaf, Life, Likeness, Reached, Reason,
     Subject, WrittenPacket, changes_under, comes, compare_at_under, dead_under, ends, life_under,
     reach, walks, why_dead_under,
 };
@@ -189,7 +189,7 @@ impl<'a, R: Clock, E: Print + IsTerminal> Asking<'a, R, E> {
     pub fn reach(
         &mut self,
         subject: &BoxedTable,
-        given: &Given,
+        given: &GivenPackets,
         field: Field,
     ) -> Result<Option<Vec<Reached>>, AllocError>
         ensures { IfOk result (λ found. IfSome found (λ reached. All (λ entry. entry.numbers.top ≡ top field) reached.items)) }

@@ -24,9 +24,9 @@ pub(crate) enum Fault<'a> {
     /// A word that is no `key=value` of packets and no `by=FIELD`, or one too many.
     #[error("bad word: {0}")]
     BadWord(&'a str),
-    /// A word `key=value` or `by=FIELD` whose key none of the packets carries that the other words allow.
-    #[error("no such packet carries it: {0}")]
-    NotCarried(&'a str),
+    /// A word of packets with which those before it leave none at the hook, or `by=FIELD` where none of them carries the field.
+    #[error("no such packet: {0}")]
+    NoPackets(&'a str),
     /// The word `by=FIELD` is missing.
     #[error("by=FIELD is missing")]
     NoField,

@@ -1,13 +1,14 @@
 -- The text of an interval: the usual one where it reads back, else the plain one, which always does.
-use Rattle.std.proofs.Common.{◌≡◌, ◌==◌, ℕ, ◌/◌, ◌%◌, ◌^◌, ◌<◌, ◌≤◌, Bool, true, false, cond, not, ◌&&◌, List, [], ◌∷◌, ◌++◌, length, Option, None, Some, codes, refl, ap, sym, ◌∙◌, arith, eq-eqb, append_assoc, length-append, ◌+◌, ◌-◌, subst}
+use Rattle.std.proofs.Common.{◌≡◌, ◌==◌, ℕ, ◌/◌, ◌%◌, ◌^◌, ◌<◌, ◌≤◌, Bool, true, false, cond, not, ◌&&◌, ◌||◌, List, [], ◌∷◌, ◌++◌, length, Option, None, Some, codes, refl, ap, sym, ◌∙◌, arith, eq-eqb, append_assoc, length-append, ◌+◌, ◌-◌, subst}
 use Rattle.std.specs.Prelude.{decimal, nat_lt, nat_le, option_map}
 use Rattle.std.specs.Char.{is_ascii_digit}
-use Rattle.std.specs.List.{list_all}
+use Rattle.std.specs.List.{list_all, list_any}
 use Rattle.std.specs.Option.{option_or}
 use Rattle.std.specs.Str.{bytes_eq}
 use Rattle.std.proofs.lemmas.Bool.{and_from, and_parts, false≢true, le-leb, leb-true, eqb-true}
 use Rattle.std.proofs.lemmas.Fmt.{decimal_nonempty}
-use Rattle.std.proofs.lemmas.List.Folds.{list_all-append}
+use Rattle.std.proofs.lemmas.List.Folds.{Any-from_list_any, list_all-append}
+use Rattle.std.proofs.lemmas.List.Sums.{AllPass-from_list_all}
 use Rattle.std.proofs.lemmas.Slice.Eq.{bytes_eq-Decides}
 use Rattle.std.specs.Int.{w32, leading_zeros}
 use Rattle.std.specs.Int.Count.{leading_unique}
@@ -24,24 +25,24 @@ use Rattle.fields.specs.values.Icmp.{packet_icmp_of}
 use Rattle.fields.specs.values.PortRange.{Ports, port_of, port_or, port_range_of, range_parted}
 use Rattle.fields.specs.values.Prefix.{address_of, address_text, network, prefix_of, prefix_parted, block_size, cleared, with_length}
 use Rattle.fields.specs.values.ConnectionState.{packet_state_of}
-use Rattle.fields.specs.values.NameList.{names_listed}
+use Rattle.fields.specs.values.NameList.{is_just, names_listed, set_listed}
 use Rattle.fields.specs.values.TcpFlags.{tcp_flags_of, tcp_flags_text}
 use Rattle.fields.specs.values.Protocol.{one_protocol_of, protocol_number, protocols}
 use Rattle.fields.proofs.laws.ListLaws.{all-weaker, find-none}
-use Rattle.fields.proofs.laws.values.NameListLaws.{all_below, all_below-at}
+use Rattle.fields.proofs.laws.values.NameListLaws.{all_below, all_below-at, is_just-same}
 use Rattle.fields.proofs.laws.text.CutLaws.{cut_at-at, cut_at-none, same_some}
 use Rattle.fields.proofs.laws.text.NumberLaws.{decimal-differs, number_to-decimal, number_to_sound}
 use Rattle.fields.proofs.laws.values.PortRangeLaws.{both-read, port_of-decimal}
 use Rattle.fields.proofs.laws.values.PrefixLaws.{address_of-address_text, address_of_sound, prefix_of_complete}
 use Rattle.fields.specs.numbers.Field.{top}
 use Rattle.fields.specs.declared.numbers.field.Field.TheVariants as field
-use Rattle.notation.specs.IntervalText.{IsPart, end_text, has_ranges, hexadecimal_text, mark_of, plain_text, IsAddresses, address, prefix, IsInterfaces, missing, name, beginning, IsTypes, with_code, all_codes, IsUsual}
-use Rattle.notation.specs.Range.{addresses_in, addresses_or, alone, between, ends_at, ends_of, hexadecimal_of, if_any, interfaces_in, interfaces_or, numbers_in, ports_in, protocols_in, protocols_or, types_in, types_or}
+use Rattle.notation.specs.IntervalText.{IsPart, end_text, has_ranges, is_one, is_row, one_text, plain_mark, with_plus, hexadecimal_text, mark_of, plain_text, IsAddresses, address, prefix, IsInterfaces, missing, name, beginning, IsTypes, with_code, all_codes, IsUsual}
+use Rattle.notation.specs.Range.{addresses_in, addresses_or, alone, between, ends_at, ends_of, flags_in, hexadecimal_of, if_any, state_ranges, states_in, states_or, with_commas, interfaces_in, interfaces_or, numbers_in, ports_in, protocols_in, protocols_or, types_in, types_or}
 use Rattle.notation.specs.SetText.{IsRangeText, is_plain, IsPartText}
 use Rattle.notation.specs.ValueText.{icmp_text, state_name, interface_name}
 use Rattle.notation.specs.steps.UsualText.{addresses_text, interfaces_text, named_text, types_text, usual_text}
 use Rattle.notation.proofs.HexadecimalLaws.{hexadecimal-differs, hexadecimal_of-hexadecimal_text, length-hexadecimal}
-use Rattle.notation.proofs.ValueTextLaws.{icmp_reads, reads_back}
+use Rattle.notation.proofs.ValueTextLaws.{icmp_reads}
 
 -- ---- The plain text of an interval reads back as its numbers, and can stand in a list.
 
@@ -192,39 +193,107 @@ interfaces_read a b ordered small =
 alone_read : (o : Option ℕ) (s : Interval) → o ≡ Some s.first → s.first ≡ s.last → if_any o ≡ Some (s.first, s.last)
 alone_read o s is one = ap if_any is ∙ ap (λ n. Some (s.first, n)) one
 
--- without a blank, and not `all`
-marked_plain : (mark : ℕ) (front back : List ℕ) → not (mark == 32) ≡ true → is_without mark (codes "all") ≡ true → is_without 32 front ≡ true → is_without 32 back ≡ true
+-- without a comma, and not `any`
+marked_plain : (mark : ℕ) (front back : List ℕ) → not (mark == 44) ≡ true → is_without mark (codes "any") ≡ true → is_without 44 front ≡ true → is_without 44 back ≡ true
     → is_plain (front ++ mark ∷ back) ≡ true
-marked_plain mark front back other strange before behind = and_from _ _ (joined 32 mark front back other before behind) (go (bytes_eq (front ++ mark ∷ back) (codes "all")) refl)
+marked_plain mark front back other strange before behind = and_from _ _ (joined 44 mark front back other before behind) (go (bytes_eq (front ++ mark ∷ back) (codes "any")) refl)
   where
-    go : (t : Bool) → bytes_eq (front ++ mark ∷ back) (codes "all") ≡ t → not t ≡ true
+    go : (t : Bool) → bytes_eq (front ++ mark ∷ back) (codes "any") ≡ t → not t ≡ true
     go false e = refl
-    go true e = absurd (has_mark mark front back (ap (is_without mark) ((bytes_eq-Decides (front ++ mark ∷ back) (codes "all")).0 e) ∙ strange))
+    go true e = absurd (has_mark mark front back (ap (is_without mark) ((bytes_eq-Decides (front ++ mark ∷ back) (codes "any")).0 e) ∙ strange))
 
 addresses_plain : (a b : ℕ) → a ≤ b → b < 2 ^ 32 → is_plain (address_text a ++ 45 ∷ address_text b) ≡ true
-addresses_plain a b ordered small = marked_plain 45 (address_text a) (address_text b) refl refl (address_without 32 a refl refl (omega arith)) (address_without 32 b refl refl small)
+addresses_plain a b ordered small = marked_plain 45 (address_text a) (address_text b) refl refl (address_without 44 a refl refl (omega arith)) (address_without 44 b refl refl small)
 
 interfaces_plain : (a b : ℕ) → is_plain (hexadecimal_text a ++ 45 ∷ hexadecimal_text b) ≡ true
-interfaces_plain a b = marked_plain 45 (hexadecimal_text a) (hexadecimal_text b) refl refl (hexadecimal-differs 32 a (omega arith)) (hexadecimal-differs 32 b (omega arith))
+interfaces_plain a b = marked_plain 45 (hexadecimal_text a) (hexadecimal_text b) refl refl (hexadecimal-differs 44 a (omega arith)) (hexadecimal-differs 44 b (omega arith))
 
 numbers_plain : (a b : ℕ) → a ≤ b → b ≤ 65535 → is_plain (decimal a ++ 58 ∷ decimal b) ≡ true
-numbers_plain a b ordered small = marked_plain 58 (decimal a) (decimal b) refl refl (decimal-differs 32 a refl (omega arith)) (decimal-differs 32 b refl (omega arith))
+numbers_plain a b ordered small = marked_plain 58 (decimal a) (decimal b) refl refl (decimal-differs 44 a refl (omega arith)) (decimal-differs 44 b refl (omega arith))
 
 types_plain : (a b : ℕ) → a ≤ b → b ≤ 65535 → is_plain (icmp_text a ++ 45 ∷ icmp_text b) ≡ true
-types_plain a b ordered small = marked_plain 45 (icmp_text a) (icmp_text b) refl refl (icmp_without 32 a refl refl (omega arith)) (icmp_without 32 b refl refl small)
+types_plain a b ordered small = marked_plain 45 (icmp_text a) (icmp_text b) refl refl (icmp_without 44 a refl refl (omega arith)) (icmp_without 44 b refl refl small)
 
-each_flags : all_below (λ n. is_plain (tcp_flags_text n)) 64 ≡ true
-unfolding names_listed tcp_flags_text
+-- each set of flags, and each state
+abbrev flags_read : ℕ → Bool
+flags_read n = is_just (tcp_flags_of (with_commas (with_plus (tcp_flags_text n)))) n && is_plain (with_plus (tcp_flags_text n))
+
+each_flags : all_below flags_read 64 ≡ true
+unfolding set_listed names_listed tcp_flags_text
 each_flags = refl
 
-each_state : all_below (λ n. is_plain (state_name n)) 14 ≡ true
+abbrev one_state : ℕ → List ℕ
+one_state n = with_plus (state_name n) ++ plain_mark n
+
+abbrev is_ends : Option (ℕ × ℕ) → ℕ → ℕ → Bool
+is_ends None a b = false
+is_ends (Some ends) a b = (ends.0 == a) && (ends.1 == b)
+
+ends_are : (o : Option (ℕ × ℕ)) (a b : ℕ) → is_ends o a b ≡ true → o ≡ Some (a, b)
+ends_are None a b e = absurd (false≢true e)
+ends_are (Some ends) a b e =
+    let two = and_parts (ends.0 == a) (ends.1 == b) e in
+    ap (λ n. Some (n, ends.1)) (eqb-true ends.0 a two.0) ∙ ap (λ n. Some (a, n)) (eqb-true ends.1 b two.1)
+
+abbrev state_reads : ℕ → Bool
+state_reads n = is_ends (states_or (one_state n) (cut_at 43 (one_state n))) n n && is_plain (one_state n)
+
+each_state : all_below state_reads 14 ≡ true
 each_state = refl
+
+-- a state with all its translations
+abbrev row_reads : List ℕ × (ℕ × ℕ) → Bool
+row_reads row = is_ends (states_or (state_name row.1.0) (cut_at 43 (state_name row.1.0))) row.1.0 row.1.1 && is_plain (state_name row.1.0)
+
+each_row : list_all row_reads state_ranges ≡ true
+each_row = refl
+
+row_read : (s : Interval) → list_any (is_row s) state_ranges ≡ true → (is_ends (states_or (state_name s.first) (cut_at 43 (state_name s.first))) s.first s.last && is_plain (state_name s.first)) ≡ true
+row_read s some =
+    let (k, row, lt, at, is) = Any-from_list_any (is_row s) state_ranges some in
+    let two = and_parts (s.first == row.1.0) (s.last == row.1.1) is in
+    let P : ℕ → ℕ → Type 0 = λ a b. (is_ends (states_or (state_name a) (cut_at 43 (state_name a))) a b && is_plain (state_name a)) ≡ true in
+    let here : row_reads row ≡ true = subst (λ (r : List ℕ × (ℕ × ℕ)). row_reads r ≡ true) at (AllPass-from_list_all row_reads state_ranges each_row k row lt) in
+    subst (λ (a : ℕ). P a s.last) (sym (eqb-true s.first row.1.0 two.0)) (subst (λ (b : ℕ). P row.1.0 b) (sym (eqb-true s.last row.1.1 two.1)) here)
+
+flags_part : (s : Interval) → s.first < 64 → (s.first == s.last) ≡ true → IsRangeText field.TcpFlags (plain_text field.TcpFlags s) s
+unfolding flags_in
+flags_part s small one =
+    let text = with_plus (tcp_flags_text s.first) in
+    let P : List ℕ → Type 0 = λ bytes. IsRangeText field.TcpFlags bytes s in
+    let two = and_parts (is_just (tcp_flags_of (with_commas text)) s.first) (is_plain text) (all_below-at flags_read 64 s.first each_flags small) in
+    let reads : IsRangeText field.TcpFlags text s = record {
+      reads_back = alone_read (tcp_flags_of (with_commas text)) s (is_just-same (tcp_flags_of (with_commas text)) s.first two.0) (eqb-true s.first s.last one);
+      plain = two.1;
+    } in
+    subst P (ap (λ b. cond b text (tcp_flags_text s.first)) (sym one)) reads
+
+states_part : (s : Interval) → s.first < 14 → (s.first == s.last || list_any (is_row s) state_ranges) ≡ true → IsRangeText field.ConnectionState (plain_text field.ConnectionState s) s
+unfolding states_in
+states_part s small one = go (s.first == s.last) refl
+  where
+    P : List ℕ → Type 0
+    P bytes = IsRangeText field.ConnectionState bytes s
+
+    go : (b : Bool) → (s.first == s.last) ≡ b → P (plain_text field.ConnectionState s)
+    go true e =
+        let text = one_state s.first in
+        let same = eqb-true s.first s.last e in
+        let two = and_parts (is_ends (states_or text (cut_at 43 text)) s.first s.first) (is_plain text) (all_below-at state_reads 14 s.first each_state small) in
+        let reads : P text = record { reads_back = ends_are (states_or text (cut_at 43 text)) s.first s.first two.0 ∙ ap (λ n. Some (s.first, n)) same; plain = two.1 } in
+        subst P (ap (λ b. cond b text (state_name s.first)) (sym e)) reads
+    go false e =
+        let text = state_name s.first in
+        let row : list_any (is_row s) state_ranges ≡ true = ap (λ b. b || list_any (is_row s) state_ranges) (sym e) ∙ one in
+        let two = and_parts (is_ends (states_or text (cut_at 43 text)) s.first s.last) (is_plain text) (row_read s row) in
+        let reads : P text = record { reads_back = ends_are (states_or text (cut_at 43 text)) s.first s.last two.0; plain = two.1 } in
+        subst P (ap (λ b. cond b (one_state s.first) text) (sym e)) reads
 
 -- on each field
 pub plain-reads : (f : Field) (s : Interval) → IsPart f s → IsRangeText f (plain_text f s) s
-plain-reads f s is = go f is.ordered is.within is.alone
+plain-reads f s is = go f is.ordered is.within is.one
   where
-    go : (f : Field) → s.first ≤ s.last → s.last ≤ top f → (has_ranges f ≡ false → s.first ≡ s.last) → IsRangeText f (plain_text f s) s
+    go : (f : Field) → s.first ≤ s.last → s.last ≤ top f → is_one f s ≡ true → IsRangeText f (plain_text f s) s
     go field.Source ordered within one =
         let small : s.last < 2 ^ 32 = omega (arith, within) in
         record { reads_back = addresses_read s.first s.last ordered small; plain = addresses_plain s.first s.last ordered small }
@@ -238,33 +307,13 @@ plain-reads f s is = go f is.ordered is.within is.alone
         record { reads_back = numbers_read 1 s.first s.last ordered within (omega arith); plain = numbers_plain s.first s.last ordered (omega (arith, within)) }
     go field.SourcePort ordered within one = record { reads_back = ports_read s.first s.last ordered within; plain = numbers_plain s.first s.last ordered within }
     go field.DestinationPort ordered within one = record { reads_back = ports_read s.first s.last ordered within; plain = numbers_plain s.first s.last ordered within }
-    go field.TcpFlags ordered within one =
-        let small : s.first < 64 = omega (arith, ordered, within) in
-        record {
-          reads_back = alone_read (tcp_flags_of (tcp_flags_text s.first)) s (reads_back field.TcpFlags s.first (omega (arith, small))) (one refl);
-          plain = all_below-at (λ n. is_plain (tcp_flags_text n)) 64 s.first each_flags small;
-        }
+    go field.TcpFlags ordered within one = flags_part s (omega (arith, ordered, within)) one
     go field.IcmpType ordered within one = record { reads_back = types_read s.first s.last ordered within; plain = types_plain s.first s.last ordered within }
-    go field.ConnectionState ordered within one =
-        let small : s.first < 14 = omega (arith, ordered, within) in
-        record {
-          reads_back = alone_read (packet_state_of (state_name s.first)) s (reads_back field.ConnectionState s.first (omega (arith, small))) (one refl);
-          plain = all_below-at (λ n. is_plain (state_name n)) 14 s.first each_state small;
-        }
+    go field.ConnectionState ordered within one = states_part s (omega (arith, ordered, within)) one
     go field.TimeToLive ordered within one =
         record { reads_back = numbers_read 255 s.first s.last ordered within (omega arith); plain = numbers_plain s.first s.last ordered (omega (arith, within)) }
 
 -- by its parts
-pub two-ends : (f : Field) (s : Interval) (text : List ℕ) → has_ranges f ≡ true → text ≡ end_text f s.first ++ mark_of f ∷ end_text f s.last → text ≡ plain_text f s
-two-ends f s text ranges whole =
-    let both = end_text f s.first ++ mark_of f ∷ end_text f s.last in
-    whole ∙ sym (ap (λ t. cond t both (end_text f s.first)) ranges)
-
-pub one-end : (f : Field) (s : Interval) (text : List ℕ) → has_ranges f ≡ false → text ≡ end_text f s.first → text ≡ plain_text f s
-one-end f s text ranges whole =
-    let both = end_text f s.first ++ mark_of f ∷ end_text f s.last in
-    whole ∙ sym (ap (λ t. cond t both (end_text f s.first)) ranges)
-
 pub put-together : (none one two three front back : List ℕ) (mark : ℕ) → none ≡ [] → one ≡ none ++ front → two ≡ one ++ mark ∷ [] → three ≡ two ++ back → three ≡ front ++ mark ∷ back
 put-together none one two three front back mark empty first second third =
     third ∙ ap (λ l. l ++ back) (second ∙ ap (λ l. l ++ mark ∷ []) (first ∙ ap (λ l. l ++ front) empty)) ∙ append_assoc front (mark ∷ []) back

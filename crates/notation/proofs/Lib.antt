@@ -1,5 +1,8 @@
+pub mod FieldLaws
 pub mod HexadecimalLaws
 pub mod IntervalTextLaws
 pub mod PartLaws
+pub mod ReadBackLaws
 pub mod SetTextLaws
 pub mod ValueTextLaws
+pub mod WordLaws

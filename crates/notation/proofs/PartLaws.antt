@@ -1,23 +1,20 @@
 -- The intervals of a set are parts that have texts.
-use Rattle.std.proofs.Common.{◌≡◌, ℕ, zero, suc, ◌+◌, ◌<◌, ◌≤◌, true, List, [], ◌∷◌, ◌++◌, length, get_or, refl, ap, sym, subst, ◌∙◌, arith}
+use Rattle.std.proofs.Common.{◌≡◌, ℕ, zero, suc, ◌+◌, ◌<◌, ◌≤◌, ◌||◌, true, List, [], ◌∷◌, ◌++◌, length, get_or, refl, ap, sym, subst, ◌∙◌, arith, eq-eqb}
 use Rattle.std.specs.Prelude.{All}
-use Rattle.std.proofs.lemmas.Bool.{false≢true}
+use Rattle.std.specs.List.{list_any}
 use Rattle.fields.specs.declared.numbers.field.Field.{Field}
+use Rattle.fields.specs.declared.numbers.field.Field.TheVariants as field
 use Rattle.fields.specs.declared.numbers.spans.Interval.{Interval}
 use Rattle.fields.specs.numbers.Field.{top}
 use Rattle.fields.specs.numbers.Spans.{AreSpansFrom}
-use Rattle.notation.specs.IntervalText.{IsPart, has_ranges}
+use Rattle.notation.specs.IntervalText.{IsPart, is_one, is_row}
+use Rattle.notation.specs.Range.{state_ranges}
 
 -- each is within the top
 are-within : (most low : ℕ) (spans : List Interval) → AreSpansFrom most low spans → All (λ s. (s.first ≤ s.last) × (s.last ≤ most)) spans
 are-within most low [] are k d inside = absurd (omega arith)
 are-within most low (s ∷ ss) (above, ordered, within, rest) zero d inside = (ordered, within)
 are-within most low (s ∷ ss) (above, ordered, within, rest) (suc k) d inside = are-within most (s.last + 2) ss rest k d (omega arith)
-
-are-parts : (f : Field) (most : ℕ) (spans : List Interval) → has_ranges f ≡ true → most ≡ top f → AreSpansFrom most 0 spans → All (IsPart f) spans
-are-parts f most spans ranges is are k d inside =
-    let (ordered, within) = are-within most 0 spans are k d inside in
-    record { ordered = ordered; within = subst (λ n. (get_or spans k d).last ≤ n) is within; alone = λ none. absurd (false≢true (sym none ∙ ranges)) }
 
 pub lent-part : (f : Field) (most : ℕ) (spans lent : List Interval) (i : ℕ) (d : Interval) → most ≡ top f → AreSpansFrom most 0 spans → lent ≡ spans → i < length lent
     → ((get_or lent i d).first ≤ (get_or lent i d).last) × ((get_or lent i d).last ≤ top f)
@@ -26,18 +23,18 @@ lent-part f most spans lent i d is are whole inside =
     let (ordered, within) = subst P (sym whole) (are-within most 0 spans are) i d inside in
     (ordered, subst (λ n. (get_or lent i d).last ≤ n) is within)
 
-pub copied-parts : (f : Field) (most : ℕ) (spans lent none items : List Interval) → has_ranges f ≡ true → most ≡ top f → AreSpansFrom most 0 spans → lent ≡ spans → none ≡ [] → items ≡ none ++ lent
-    → All (IsPart f) items
-copied-parts f most spans lent none items ranges is are whole empty same =
-    let P : List Interval → Type 0 = λ l. All (IsPart f) l in
-    subst P (sym (same ∙ ap (λ l. l ++ lent) empty ∙ whole)) (are-parts f most spans ranges is are)
+-- one number has a text
+one-number : (f : Field) (n : ℕ) → is_one f (record { first = n; last = n }) ≡ true
+one-number field.TcpFlags n = eq-eqb n n refl
+one-number field.ConnectionState n = ap (λ b. b || list_any (is_row (record { first = n; last = n })) state_ranges) (eq-eqb n n refl)
+one-number _ n = refl
 
 -- one number
 one-part : (f : Field) (n : ℕ) → n ≤ top f → IsPart f (record { first = n; last = n })
-one-part f n within = record { ordered = omega arith; within = within; alone = λ none. refl }
+one-part f n within = record { ordered = omega arith; within = within; one = one-number f n }
 
 -- a part more
-one-more : (f : Field) (parts : List Interval) (s : Interval) → All (IsPart f) parts → IsPart f s → All (IsPart f) (parts ++ s ∷ [])
+pub one-more : (f : Field) (parts : List Interval) (s : Interval) → All (IsPart f) parts → IsPart f s → All (IsPart f) (parts ++ s ∷ [])
 one-more f [] s are is zero d inside = is
 one-more f [] s are is (suc k) d inside = absurd (omega arith)
 one-more f (p ∷ ps) s are is zero d inside = are zero d (omega arith)

@@ -3,4 +3,5 @@ pub mod Range
 pub mod Rows
 pub mod SetText
 pub mod ValueText
+pub mod Words
 pub mod steps

@@ -1,7 +1,7 @@
 -- What texts on a field stand for: addresses, interfaces, protocols, ports, ICMP types, flags, states, numbers (iptables(8),
 -- PARAMETERS; iptables-extensions(8)).
-use Rattle.std.specs.Prelude.{ℕ, ◌+◌, ◌-◌, ◌*◌, ◌==◌, nat_lt, nat_le, ◌&&◌, List, [], ◌∷◌, length, Option, Some, None, if◌then◌else◌, codes}
-use Rattle.std.specs.Str.{bytes_eq}
+use Rattle.std.specs.Prelude.{ℕ, ◌+◌, ◌-◌, ◌*◌, ◌==◌, nat_lt, nat_le, ◌&&◌, List, [], ◌∷◌, length, map, find, Option, Some, None, option_map, if◌then◌else◌, codes}
+use Rattle.std.specs.Str.{bytes_eq, str_eq_ignore_ascii_case}
 use Rattle.fields.specs.Sequence.{◌>>=◌}
 use Rattle.fields.specs.declared.numbers.field.Field.{Field}
 use Rattle.fields.specs.declared.numbers.field.Field.TheVariants.{Source, Destination, InIface, OutIface, Protocol, Fragment, SourcePort, DestinationPort, TcpFlags, IcmpType, ConnectionState, TimeToLive}
@@ -94,6 +94,40 @@ interfaces_or text None = ends_at 45 hexadecimal_of text
 unfoldable pub interfaces_in : List ℕ → Option (ℕ × ℕ)
 interfaces_in text = if bytes_eq text (codes "none") then alone 0 else interfaces_or text (interface_of text)
 
+-- a comma (44) for a plus sign (43)
+abbrev pub comma_for : ℕ → ℕ
+comma_for byte = if byte == 43 then 44 else byte
+
+-- names that plus signs join, as in a list of values, with commas in their places
+abbrev pub with_commas : List ℕ → List ℕ
+with_commas text = map comma_for text
+
+-- the numbers of a state alone, with any translations (iptables-extensions(8), conntrack)
+abbrev pub state_ranges : List (List ℕ × (ℕ × ℕ))
+state_ranges =
+    (codes "INVALID", (0, 0)) ∷ (codes "UNTRACKED", (1, 1)) ∷ (codes "NEW", (2, 5)) ∷ (codes "RELATED", (6, 9)) ∷ (codes "ESTABLISHED", (10, 13)) ∷ []
+
+-- the numbers of the first row of a name, in upper or lower case
+abbrev pub range_named : List (List ℕ × (ℕ × ℕ)) → List ℕ → Option (ℕ × ℕ)
+range_named rows text = option_map (λ row. row.1) (find (λ row. str_eq_ignore_ascii_case row.0 text) rows)
+
+-- the number of a state with just the translations behind it, of which it has none with `PLAIN`
+abbrev pub state_with : List ℕ → List ℕ → List ℕ → Option ℕ
+state_with state translations text = if str_eq_ignore_ascii_case (codes "PLAIN") translations then packet_state_of state else packet_state_of (with_commas text)
+
+-- a state alone; else, with plus signs (43), one with just these translations
+abbrev pub states_or : List ℕ → Option (List ℕ × List ℕ) → Option (ℕ × ℕ)
+states_or text None = range_named state_ranges text
+states_or text (Some p) = if_any (state_with p.0 p.1 text)
+
+-- states: `NEW`, `NEW+DNAT`, `NEW+SNAT+DNAT` or `NEW+PLAIN`
+unfoldable pub states_in : List ℕ → Option (ℕ × ℕ)
+states_in text = states_or text (cut_at 43 text)
+
+-- flags: `SYN` or `SYN+ACK`, which are just these
+unfoldable pub flags_in : List ℕ → Option (ℕ × ℕ)
+flags_in text = if_any (tcp_flags_of (with_commas text))
+
 -- the first and the last number that a text stands for on a field, one row a field
 abbrev pub range_in : Field → List ℕ → Option (ℕ × ℕ)
 range_in Source text = addresses_in text
@@ -104,7 +138,7 @@ range_in Protocol text = protocols_in text
 range_in Fragment text = numbers_in 1 text
 range_in SourcePort text = ports_in text
 range_in DestinationPort text = ports_in text
-range_in TcpFlags text = if_any (tcp_flags_of text)
+range_in TcpFlags text = flags_in text
 range_in IcmpType text = types_in text
-range_in ConnectionState text = if_any (packet_state_of text)
+range_in ConnectionState text = states_in text
 range_in TimeToLive text = numbers_in 255 text

@@ -2,14 +2,17 @@
 #![tactic(auto)]
 
 mod interfaces;
+mod joined;
 mod numbers;
+mod packet_word;
 mod plain;
 mod range;
 mod sets;
 mod states;
 mod usual;
 mod values;
+mod words;
 
-pub use range::read_range;
-pub use sets::set_text;
+pub use packet_word::{PacketWord, PacketWordFault};
+pub use sets::set_word;
 pub use values::put_value;

@@ -1,10 +1,11 @@
 //! A text as a user would write it, of one number, or where that is shorter than the first and the last number. The
 //! caller reads it back, and takes the plain text where it stands for other numbers.
-ghost use Rattle.std.specs.Prelude.{◌≡◌, ◌-◌, ◌≤◌, ◌<◌, ◌^◌, ◌++◌, IfOk, OnOk};
+ghost use Rattle.std.specs.Prelude.{◌≡◌, ◌-◌, ◌≤◌, ◌<◌, ◌^◌, ◌++◌, true, IfOk, OnOk};
 ghost use Rattle.std.specs.Int.{w32, leading_zeros};
-ghost use Rattle.notation.specs.IntervalText.{IsPart};
+ghost use Rattle.notation.specs.IntervalText.{IsPart, has_ranges};
 ghost use Rattle.notation.specs.steps.UsualText.{addresses_text, interfaces_text, types_text, usual_text};
 
+use crate::plain::{has_ranges, plain_text};
 use crate::values::{put_number, put_value};
 use fields::{Field, Interval};
 use std::alloc::{AllocError, Global};
@@ -59,10 +60,11 @@ fn put_types(text: &mut Vec<u8>, span: &Interval) -> Result<(), AllocError>
     put_number(text, (span.first / 256) as u32)
 }
 
-// Writes the usual text of an interval.
+// Writes the usual text of an interval, other than of flags and states.
 #[tactic(auto, unfolding(crate::specs::steps::UsualText::usual_text))]
 fn put_usual(text: &mut Vec<u8>, field: Field, span: &Interval) -> Result<(), AllocError>
-    requires { IsPart field span.now }
+    requires part { IsPart field span.now }
+    requires ranges { has_ranges field ≡ true }
     ensures { OnOk result (text.new.items ≡ text.old.items ++ usual_text field span.now) }
 {
     match field {
@@ -73,7 +75,8 @@ fn put_usual(text: &mut Vec<u8>, field: Field, span: &Interval) -> Result<(), Al
     }
 }
 
-/// One number, a prefix, all names with one beginning, or a type with all its codes.
+/// One number, a prefix, all names with one beginning, a type with all its codes; of flags and states the plain text.
+#[tactic(auto, unfolding(crate::specs::steps::UsualText::usual_text))]
 pub(crate) fn usual_text(
     alloc: Global,
     field: Field,
@@ -82,6 +85,9 @@ pub(crate) fn usual_text(
     requires { IsPart field span.now }
     ensures { IfOk result (λ text. text.items ≡ usual_text field span.now) }
 {
+    if !has_ranges(field) {
+        return plain_text(alloc, field, span);
+    }
     let mut text = Vec::new(alloc);
     put_usual(&mut text, field, span)?;
     Ok(text)

@@ -26,6 +26,7 @@ pub mod PlainLaws
 pub mod ReachLaws
 pub mod RemainLaws
 pub mod ResolvedLaws
+pub mod SaidLaws
 pub mod SeekLaws
 pub mod SharedLaws
 pub mod StepLaws

@@ -10,6 +10,7 @@ pub mod Leading
 pub mod Lengths
 pub mod Outlines
 pub mod Sampled
+pub mod Saying
 pub mod Seeking
 pub mod Shared
 pub mod Sides

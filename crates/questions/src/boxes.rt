@@ -8,4 +8,5 @@ pub(crate) mod lying;
 pub(crate) mod matched;
 pub(crate) mod meeting;
 pub(crate) mod rule_box;
+pub(crate) mod said;
 pub(crate) mod transport;

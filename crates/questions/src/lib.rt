@@ -19,7 +19,7 @@ pub use asked::laws::{
     answers_exclude_each_other, changes_elsewhere, changes_off_the_walk, dead_rules_can_go,
 };
 pub use asked::likeness::Likeness;
-pub use asked::reach::{Given, reach};
+pub use asked::reach::{GivenPackets, reach};
 pub use asked::reached::Reached;
 pub use asked::reason::{Reason, why_dead_under};
 pub use asked::rule::{Life, dead_under, life_under};
@@ -28,6 +28,7 @@ pub use asked::walks::walks;
 pub use boxes::area::Area;
 pub use boxes::boxed_table::BoxedTable;
 pub use boxes::matched::rule_matches;
+pub use boxes::said::said;
 pub use boxes::transport::carrying;
 pub use foreign::answers::{Answer, Answers};
 pub use foreign::laws::{answers_can_be_given, conditions_leave_a_table};

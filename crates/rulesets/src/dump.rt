@@ -85,8 +85,11 @@ pub(crate) fn listed_needs(
     foreign: &Foreign,
     conditions: &mut Conditions,
 ) -> Result<Option<Vec<Vec<Vec<Need>>>>, AllocError> {
+    if foreign.is_empty() {
+        return Ok(Some(Vec::new(alloc)));
+    }
     let Placed { listed, is_whole } = placed_needs(alloc, table, foreign, conditions)?;
-    if is_whole || foreign.is_empty() {
+    if is_whole {
         return Ok(Some(listed));
     }
     Ok(None)

@@ -90,6 +90,9 @@ impl OwnVerdicts {
         foreign: &Foreign,
     ) -> Result<OwnVerdicts, AllocError> {
         let mut chains = Vec::new(alloc);
+        if foreign.is_empty() {
+            return Ok(OwnVerdicts { chains });
+        }
         for place in 0..table.chain_count() {
             let read = foreign.verdicts_of_chain(alloc, table.chain_name(place))?;
             chains.push(own_verdicts_of(alloc, table, place, read.as_slice())?)?;

@@ -45,7 +45,7 @@ def question_rows():
     yield Row("of the old file", ["compare", "--steps", "0", "O", "M"], files, UNCLEAR, 3, LINE)
     yield Row("tests", ["tests", "--steps", "0", "--json", "N"], {"N": OTHER_LINE}, b'{"question":"tests","rules":[]}\n', 0, OTHER_LINE)
     yield Row("cover", ["cover", "N"], {"N": OTHER_LINE}, COVERED % (0, 0, 0, 0, 0), 0, OTHER_LINE, input=b"")
-    yield Row("reach", ["reach", "N", "INPUT", "by=ttl"], {"N": OTHER_LINE}, b"ACCEPT by policy: all\n", 0, OTHER_LINE)
+    yield Row("reach", ["reach", "N", "INPUT", "by=ttl"], {"N": OTHER_LINE}, b"ACCEPT by policy: ttl=any\n", 0, OTHER_LINE)
     yield Row("a fault", ["dead", "B"], files, b"", 2, LINE + b"line 8: T11 target chain missing\niptaudit: cannot restore B\n")
 
 

@@ -6,8 +6,8 @@ use crate::trouble::{Trouble, expect};
 use crate::written::{Placed, are_words, has_listing, table_of};
 use fields::{Field, Hook, Interval, Spans, Words};
 use questions::{
-    Answers, Area, BoxedTable, Given, Leaf, Life, Likeness, Need, Needs, Reached, Reason, Scope,
-    Subject, compare_at_under, dead_under, leaves_under, life_under, reach, why_dead_under,
+    Answers, Area, BoxedTable, GivenPackets, Leaf, Life, Likeness, Need, Needs, Reached, Reason,
+    Scope, Subject, compare_at_under, dead_under, leaves_under, life_under, reach, why_dead_under,
 };
 use rules::Work;
 use std::alloc::{AllocError, Global};
@@ -343,15 +343,22 @@ fn are_ends(found: &[Reached]) -> bool {
     are_there && found.len() == PORTS.len()
 }
 
+// One box.
+fn alone(alloc: Global, area: Area) -> Result<Vec<Area>, AllocError> {
+    let mut boxes = Vec::new(alloc);
+    boxes.push(area)?;
+    Ok(boxes)
+}
+
 /// `reach`.
 pub fn reached(
     alloc: Global,
     refusals: &mut Refusals,
     subject: &BoxedTable,
 ) -> Result<(), Trouble> {
-    let given = Given {
+    let given = GivenPackets {
         hook: Hook::Input,
-        area: areas(alloc, refusals)?,
+        boxes: alone(alloc, areas(alloc, refusals)?)?,
     };
     let found = again!(
         refusals,

@@ -241,7 +241,7 @@ fn add_written(
     ensures { IfOk result (λ _. kept_names names.new.items ≡ kept_names names.old.items ++ written (map rule_in rules.now)) }
 {
     for (place, rule) in rules.iter().enumerate() {
-        if !is_ended(rule.chain.as_slice(), &rules[place + 1..]) {
+        if !rule.sets.is_empty() && !is_ended(rule.chain.as_slice(), &rules[place + 1..]) {
             add_names(alloc, names, rule.sets.as_slice())?;
         }
     }

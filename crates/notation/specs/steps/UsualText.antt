@@ -6,6 +6,7 @@ use Rattle.fields.specs.declared.numbers.field.Field.TheVariants.{Source, Destin
 use Rattle.fields.specs.declared.numbers.field.Field.TheVariants.{DestinationPort, TcpFlags, IcmpType, ConnectionState, TimeToLive}
 use Rattle.fields.specs.declared.numbers.spans.Interval.{Interval}
 use Rattle.fields.specs.values.Prefix.{address_text}
+use Rattle.notation.specs.IntervalText.{plain_text}
 use Rattle.notation.specs.ValueText.{icmp_text, interface_name, value_text}
 
 -- of several addresses the first, and the bits that all numbers up to their distance leave at 0
@@ -34,7 +35,7 @@ usual_text Protocol s = value_text Protocol s.first
 usual_text Fragment s = value_text Fragment s.first
 usual_text SourcePort s = value_text SourcePort s.first
 usual_text DestinationPort s = value_text DestinationPort s.first
-usual_text TcpFlags s = value_text TcpFlags s.first
+usual_text TcpFlags s = plain_text TcpFlags s
 usual_text IcmpType s = types_text s
-usual_text ConnectionState s = value_text ConnectionState s.first
+usual_text ConnectionState s = plain_text ConnectionState s
 usual_text TimeToLive s = value_text TimeToLive s.first

@@ -1,7 +1,7 @@
 -- Leaves that have only packets which can be at their hook.
-use Rattle.std.proofs.Common.{◌≡◌, ℕ, ◌+◌, ◌-◌, ◌<◌, ◌≤◌, Bool, true, false, cond, List, [], ◌∷◌, ◌++◌, length, get_or, refl, sym, ◌∙◌, ap, arith, subst, Option, None, All, IfSome, slice_get}
+use Rattle.std.proofs.Common.{◌≡◌, ℕ, zero, suc, inl, inr, Any, ◌+◌, ◌-◌, ◌<◌, ◌≤◌, Bool, true, false, cond, List, [], ◌∷◌, ◌++◌, length, get_or, refl, sym, ◌∙◌, ap, arith, subst, Option, None, All, IfSome, slice_get}
 use Rattle.std.proofs.lemmas.List.{get_or_default}
-use Rattle.std.proofs.lemmas.List.Elements.{All-contains}
+use Rattle.std.proofs.lemmas.List.Elements.{All-append, All-contains, Contains-append_cases, Contains-append_left, Contains-append_right}
 use Rattle.std.proofs.lemmas.List.Quantifiers.{Any-push}
 use Rattle.fields.specs.declared.packet.hook.Hook.{Hook}
 use Rattle.fields.specs.numbers.Spans.{SpanSet}
@@ -23,7 +23,7 @@ use Rattle.questions.specs.declared.walking.scope.Scope.{Scope}
 use Rattle.questions.specs.declared.walking.task.Leaf.{Leaf}
 use Rattle.questions.specs.declared.boxes.transport.Transport.{Transport}
 use Rattle.questions.specs.declared.boxes.transport.Transport.TheVariants.{Tcp}
-use Rattle.questions.specs.steps.Exact.{AddsExact, AreExact, AreExactWalks, AreExactWalksUnder, IsCovered, IsExactUnder, IsInAny, IsMet, IsPartIn, IsShare, IsShown}
+use Rattle.questions.specs.steps.Exact.{AddsExact, AreExact, AreExactIn, AreExactWalks, AreExactWalksUnder, IsCovered, IsExactIn, IsExactUnder, IsInAny, IsMet, IsPartIn, IsShare, IsShown}
 use Rattle.questions.specs.steps.Transports.{HasTransport, IsWithTransport, all_transports}
 use Rattle.questions.proofs.laws.BoxesLaws.{Pair, pair_more}
 use Rattle.questions.proofs.laws.ReachLaws.{any_left}
@@ -191,3 +191,42 @@ exact_walks_plain t needs none hook box exact all =
           (let (k, leaf, lt, is, of) = (all any).all p can there (record { inside = inside; agrees = gives_none any }) in
           (k, leaf, lt, is, of.inside));
     }
+
+-- ---- the packets of some boxes
+
+-- those of one box
+pub exact_in_box : (t : Table) (needs : List (List (List Need))) → needs ≡ [] → (given met : Given) (m : IsMet given met) (exact : List Leaf)
+    → ((a : Assignment) → AreExactWalksUnder (resolved needs a t) (record { needs = needs; holds = a }) met.hook (unasked met.area) exact) → AreExactIn t given.hook (given.area ∷ []) exact
+exact_in_box t needs none given met m exact all =
+    let walks : AreExactWalks t met exact = exact_walks_plain t needs none met.hook met.area exact all in
+    record {
+      each = λ k d lt. record { box = given.area; among = (0, omega arith, refl); met = met; of = m; exact = walks.each k d lt };
+      all = λ p can there some.
+          (let inside = any_one (λ (box : List SpanSet). IsIn box p) given.area some in
+          walks.all p can (there ∙ sym m.there) (m.all p (record { can = can; there = there; inside = inside })));
+    }
+  where
+    any_one : {X : Type 0} (P : X → Type 0) (x : X) → Any P (x ∷ []) → P x
+    any_one P x (zero, y, lt, at, h) = subst P (sym at) h
+    any_one P x (suc k, y, lt, at, h) = absurd (omega (arith, lt))
+
+-- and those of further boxes
+module _ (t : Table) (hook : Hook) (boxes more : List (List SpanSet)) (old new : List Leaf) (first : AreExactIn t hook boxes old) (rest : AreExactIn t hook more new) where
+  left : (leaf : Leaf) → IsExactIn t hook boxes leaf → IsExactIn t hook (boxes ++ more) leaf
+  left leaf is = record { box = is.box; among = Contains-append_left boxes more is.box is.among; met = is.met; of = is.of; exact = is.exact }
+
+  right : (leaf : Leaf) → IsExactIn t hook more leaf → IsExactIn t hook (boxes ++ more) leaf
+  right leaf is = record { box = is.box; among = Contains-append_right boxes more is.box is.among; met = is.met; of = is.of; exact = is.exact }
+
+  pub exact_in_more : AreExactIn t hook (boxes ++ more) (old ++ new)
+  exact_in_more = record {
+    each = All-append (IsExactIn t hook (boxes ++ more)) old new (λ k d lt. left (get_or old k d) (first.each k d lt)) (λ k d lt. right (get_or new k d) (rest.each k d lt));
+    all = λ p can there (k, box, lt, at, h).
+        elim (Contains-append_cases boxes more box (k, lt, at)) [
+          | inl (j, less, is) ↦ any_left (λ (leaf : Leaf). Has leaf.area p.values) old new (first.all p can there (j, box, less, is, h))
+          | inr (j, less, is) ↦ any_right (λ (leaf : Leaf). Has leaf.area p.values) old new (rest.all p can there (j, box, less, is, h))
+        ];
+  }
+    where
+      any_right : {X : Type 0} (P : X → Type 0) (xs ys : List X) → Any P ys → Any P (xs ++ ys)
+      any_right P xs ys (k, x, lt, at, h) = (let c = Contains-append_right xs ys x (k, lt, at) in (c.0, x, c.1, c.2, h))

@@ -23,10 +23,10 @@ use Rattle.questions.specs.declared.asked.reached.Reached.{Reached}
 use Rattle.questions.specs.declared.walking.task.Leaf.{Leaf}
 use Rattle.questions.specs.steps.Groups.{GivesNumber, HasEnd, IsGroup, IsJoined, IsListed, IsNamed, IsNumbersOf, Lists, AreGroups}
 use Rattle.questions.specs.Leaves.{entry_of, walked_of}
-use Rattle.questions.specs.asked.Reach.{Gets, HasItsNumber, IsMeant, IsReach, IsReached}
+use Rattle.questions.specs.asked.Reach.{Gets, HasItsNumber, IsAmong, IsReach, IsReached}
 use Rattle.questions.specs.boxes.Boxes.{HasNumbers, IsIn}
-use Rattle.questions.specs.declared.asked.reach.Given.{Given}
-use Rattle.questions.specs.steps.Exact.{AnyHas, AreExactWalks, IsExact, IsMet}
+use Rattle.questions.specs.declared.asked.reach.GivenPackets.{GivenPackets}
+use Rattle.questions.specs.steps.Exact.{AnyHas, AreExactIn, IsExactIn}
 use Rattle.questions.proofs.laws.TrailLaws.{items_next, one_place, decider_is_rule, decider_shown, none_some}
 use Rattle.questions.proofs.laws.AreaLaws.{from_fields, on_field}
 use Rattle.questions.proofs.laws.PacketLaws.{at_index}
@@ -98,7 +98,10 @@ module _ (hook : Hook) (box : List SpanSet) (some : HasNumbers box) (f : Field) 
 
 -- ---- the answer
 
-module _ (t : Table) (s : IsSound t) (given met : Given) (f : Field) (exact : List Leaf) (reached : List Reached) (m : IsMet given met) (each : All (IsExact t met) exact) (groups : AreGroups f exact reached) where
+module _ (t : Table) (s : IsSound t) (given : GivenPackets) (f : Field) (exact : List Leaf) (reached : List Reached) (walks : AreExactIn t given.hook given.boxes.items exact) (groups : AreGroups f exact reached) where
+  abbrev Exact : Leaf → Type 0
+  Exact = IsExactIn t given.hook given.boxes.items
+
   ends_as : (p : Packet) (leaf : Leaf) (verdict : Verdict) (by : Option Step) → walk t p ≡ walked_of t.chains leaf → leaf.verdict ≡ verdict → step_of leaf ≡ by → EndsBy t p verdict by
   ends_as p leaf verdict by e v d = record {
     gives = ap (λ (w : Walked). w.verdict) e ∙ v;
@@ -106,28 +109,31 @@ module _ (t : Table) (s : IsSound t) (given met : Given) (f : Field) (exact : Li
   }
 
   -- the packet of an exact leaf with a number of its set
-  gets_in : (entry : Reached) (x : ℕ) (leaf : Leaf) → IsExact t met leaf → HasEnd entry.verdict entry.by leaf → x ≤ top f → box_allows leaf.area f x ≡ true → (p : Packet) × Gets t given f entry x p
-  gets_in entry x leaf ex end le on =
+  gets_in : (entry : Reached) (x : ℕ) (leaf : Leaf) → Exact leaf → HasEnd entry.verdict entry.by leaf → x ≤ top f → box_allows leaf.area f x ≡ true → (p : Packet) × Gets t given f entry x p
+  gets_in entry x leaf one end le on =
+      let ex = one.exact in
+      let m = one.of in
       let p : Packet = packet_with given.hook leaf.area ex.some f x le on in
       let is : IsPacket p = with_packet given.hook leaf.area ex.some f x le on in
       let inside : IsIn leaf.area p = with_inside given.hook leaf.area ex.some f x le on in
-      let met_in : IsIn met.area p = ex.inside p.values is.within inside in
-      let meant : IsMeant given p = record { can = ex.can p is (m.own p is refl met_in) inside; there = refl; inside = m.only p is met_in } in
+      let met_in : IsIn one.met.area p = ex.inside p.values is.within inside in
+      let (k, lt, at) = one.among in
+      let meant : IsAmong given p = record { can = ex.can p is (m.own p is refl met_in) inside; there = refl; inside = (k, one.box, lt, at, m.only p is met_in) } in
       let walked : walk t p ≡ walked_of t.chains leaf = ex.walked p meant.can (sym m.there) inside in
       (p, record { meant = meant; number = with_number given.hook leaf.area ex.some f x le on; ends = ends_as p leaf entry.verdict entry.by walked end.0 end.1 })
 
   reached_by : (entry : Reached) → IsGroup f exact entry → IsReached t given f entry
   reached_by entry group =
       let w = group.some in
-      let ex : IsExact t met w.1 = All-contains (IsExact t met) exact w.1 each (w.0, w.2, w.3) in
-      let n = ex.some f in
+      let ex : Exact w.1 = All-contains Exact exact w.1 walks.each (w.0, w.2, w.3) in
+      let n = ex.exact.some f in
       let one = gets_in entry n.0 w.1 ex w.4 n.1 n.2 in
       record {
         greatest = group.numbers.greatest;
         some = (n.0, n.1, group.numbers.all n.0 n.1 (w.0, w.1, w.2, w.3, (w.4, n.2)));
         each = λ x le on. (
             let g = group.numbers.only x le on in
-            gets_in entry x g.1 (All-contains (IsExact t met) exact g.1 each (g.0, g.2, g.3)) g.4.0 le g.4.1);
+            gets_in entry x g.1 (All-contains Exact exact g.1 walks.each (g.0, g.2, g.3)) g.4.0 le g.4.1);
         rule = decider_is_rule t one.0 entry.by s one.1.ends.decides;
       }
 
@@ -135,10 +141,10 @@ module _ (t : Table) (s : IsSound t) (given met : Given) (f : Field) (exact : Li
   all_reached k d lt = reached_by (get_or reached k d) (groups.each k d lt)
 
   -- the entry of a packet of an exact leaf
-  number_of : (p : Packet) → IsMeant given p → AnyHas p.values exact → Any (HasItsNumber t f p) reached
+  number_of : (p : Packet) → IsAmong given p → AnyHas p.values exact → Any (HasItsNumber t f p) reached
   number_of p meant w =
-      let ex : IsExact t met w.1 = All-contains (IsExact t met) exact w.1 each (w.0, w.2, w.3) in
-      let walked : walk t p ≡ walked_of t.chains w.1 = ex.walked p meant.can (meant.there ∙ sym m.there) w.4 in
+      let ex : Exact w.1 = All-contains Exact exact w.1 walks.each (w.0, w.2, w.3) in
+      let walked : walk t p ≡ walked_of t.chains w.1 = ex.exact.walked p meant.can (meant.there ∙ sym ex.of.there) w.4 in
       let e = All-contains (IsListed reached) exact w.1 groups.all (w.0, w.2, w.3) in
       let group : IsGroup f exact e.1 = All-contains (IsGroup f exact) reached e.1 groups.each (e.0, e.2, e.3) in (
         e.0,
@@ -164,9 +170,9 @@ module _ (t : Table) (s : IsSound t) (given met : Given) (f : Field) (exact : Li
   same_by (Some a) None is e = absurd (none_some (sym e))
   same_by (Some a) (Some b) is e = ap Some (same_step a b is (same_Some (entry_of t.chains a) (entry_of t.chains b) e))
 
-  pub reach_of : AreExactWalks t met exact → IsReach t given f reached
-  reach_of walks = record {
+  pub reach_of : IsReach t given f reached
+  reach_of = record {
     each = all_reached;
-    all = λ p meant. number_of p meant (walks.all p meant.can (meant.there ∙ sym m.there) (m.all p meant));
+    all = λ p meant. number_of p meant (walks.all p meant.can meant.there meant.inside);
     one = λ i j d below lt same. groups.one i j d below lt (same.verdict, same_by (get_or reached i d).by (get_or reached j d).by (all_reached j d lt).rule same.decider);
   }

@@ -12,6 +12,7 @@ use Rattle.questions.specs.asked.Reason.{IsLed}
 use Rattle.questions.specs.boxes.Boxes.{IsBoth}
 use Rattle.questions.specs.boxes.Calls.{IsCall}
 use Rattle.questions.specs.declared.asked.reach.Given.{Given}
+use Rattle.questions.specs.declared.asked.reach.GivenPackets.{GivenPackets}
 use Rattle.questions.specs.declared.foreign.subject.Subject.{Subject}
 use Rattle.questions.specs.declared.walking.scope.Scope.{Scope}
 use Rattle.questions.specs.declared.walking.task.Leaf.{Leaf}
@@ -26,6 +27,10 @@ CantBeWalked t given budget = (box : List SpanSet) × IsBoth given.area given.ar
 -- the same of those of some packets that can be at their hook
 abbrev pub MetCantBeWalked : Table → Given → ℕ → Type 0
 MetCantBeWalked t given budget = (met : Given) × IsMet given met × CantBeWalked t met budget
+
+-- the same of the packets of one of some boxes
+abbrev pub OneCantBeWalked : Table → GivenPackets → ℕ → Type 0
+OneCantBeWalked t given budget = Any (λ (box : List SpanSet). MetCantBeWalked t (record { hook = given.hook; area = box }) budget) given.boxes.items
 
 -- another rule leads to the rule's chain, if one is given
 abbrev pub LeadsTo : Table → Step → Option Step → Type 0

@@ -1,5 +1,5 @@
 -- Leaves that have only packets which can be at their hook.
-use Rattle.std.specs.Prelude.{◌≡◌, List, ℕ, Option, None, Some, All, Any}
+use Rattle.std.specs.Prelude.{◌≡◌, List, ℕ, Option, None, Some, All, Any, Contains}
 use Rattle.fields.specs.declared.packet.hook.Hook.{Hook}
 use Rattle.fields.specs.numbers.Spans.{SpanSet}
 use Rattle.fields.specs.Packet.{PacketView as Packet, IsPacket}
@@ -95,3 +95,16 @@ pub record AreExactWalks (t : Table) (given : Given) (exact : List Leaf) : Type 
 abbrev pub ArePossible : Hook → List SpanSet → List (List SpanSet) → Type 0
 ArePossible hook box boxes =
     (there : List SpanSet) × IsMet (record { hook = hook; area = box }) (record { hook = hook; area = there }) × AreByTransport there boxes
+
+-- the leaf is exact for the packets of one of some boxes that can be at the hook
+pub record IsExactIn (t : Table) (hook : Hook) (boxes : List (List SpanSet)) (leaf : Leaf) : Type 0 where
+  pub box : List SpanSet
+  pub among : Contains boxes box
+  pub met : Given
+  pub of : IsMet (record { hook = hook; area = box }) met
+  pub exact : IsExact t met leaf
+
+-- exact leaves that have each packet of some boxes that can be at the hook
+pub record AreExactIn (t : Table) (hook : Hook) (boxes : List (List SpanSet)) (exact : List Leaf) : Type 0 where
+  pub each : All (IsExactIn t hook boxes) exact
+  pub all : (p : Packet) → IsAtHook p → p.hook ≡ hook → Any (λ (box : List SpanSet). IsIn box p) boxes → AnyHas p.values exact

@@ -12,7 +12,7 @@ use std::alloc::{AllocError, Global};
 
 // What a packet carries behind the header of IP, as far as rules ask for it.
 #[derive(Clone, Copy, PartialEq, Eq)]
-enum Transport {
+pub(crate) enum Transport {
     // The header of TCP: ports and flags.
     Tcp,
     // That of UDP, DCCP, SCTP or UDP-Lite: ports.
@@ -76,19 +76,19 @@ impl Transport {
         Transport::Missing,
     ];
 
-    fn has_ports(self) -> bool
+    pub(crate) fn has_ports(self) -> bool
         ensures { result ≡ with_ports self }
     {
         matches!(self, Transport::Tcp | Transport::Ports)
     }
 
-    fn has_flags(self) -> bool
+    pub(crate) fn has_flags(self) -> bool
         ensures { result ≡ with_flags self }
     {
         matches!(self, Transport::Tcp)
     }
 
-    fn has_type(self) -> bool
+    pub(crate) fn has_type(self) -> bool
         ensures { result ≡ with_type self }
     {
         matches!(self, Transport::Icmp)
@@ -141,7 +141,11 @@ fn numbers_with(alloc: Global, transport: Transport, field: Field) -> Result<Spa
 }
 
 // The packets of a box with it.
-fn with_transport(alloc: Global, mut area: Area, transport: Transport) -> Result<Area, AllocError>
+pub(crate) fn with_transport(
+    alloc: Global,
+    mut area: Area,
+    transport: Transport,
+) -> Result<Area, AllocError>
     ensures { IfOk result (IsWithTransport transport area) }
 {
     for place in 0..FIELDS {

@@ -6,7 +6,7 @@ use crate::json::document::{Answer, OutcomeEntry};
 use crate::json::memory_text::verdict_text;
 use crate::json::names::{decider_entry, name_text};
 use fields::{Field, Hook};
-use notation::set_text;
+use notation::set_word;
 use questions::Reached;
 use rulesets::Dump;
 use std::alloc::{AllocError, Global};
@@ -15,7 +15,7 @@ use std::alloc::{AllocError, Global};
 fn numbers_text(alloc: Global, field: Field, reached: &Reached) -> Result<String, AllocError>
     requires { reached.now.numbers.top ≡ top field }
 {
-    let numbers = set_text(alloc, field, &reached.numbers)?;
+    let numbers = set_word(alloc, field, &reached.numbers)?;
     name_text(alloc, numbers.as_slice())
 }
 

@@ -6,7 +6,7 @@ use crate::fault::ReportFault;
 use crate::lines::rule_line::put_rule_name;
 use crate::lines::verdict_line::put_verdict;
 use fields::{Field, Tap, WriteFailed};
-use notation::set_text;
+use notation::set_word;
 use questions::Reached;
 use rulesets::Dump;
 use std::alloc::Global;
@@ -29,8 +29,8 @@ pub(crate) fn put_decider<W: Write>(
     }
 }
 
-/// Writes the verdicts of a set of packets, a line for each verdict and decider, with the numbers of its packets on the field:
-/// `ACCEPT by INPUT 3: 22, 80`.
+/// Writes the verdicts of a set of packets, a line for each verdict and decider, with the word of its packets on the field:
+/// `ACCEPT by INPUT 3: dport=22,80`.
 ///
 /// # Errors
 ///
@@ -45,7 +45,7 @@ pub(crate) fn put_outcomes<W: Write>(
     requires { All (λ reached. reached.numbers.top ≡ top field) found.now }
 {
     for reached in found {
-        let numbers = set_text(alloc, field, &reached.numbers)?;
+        let numbers = set_word(alloc, field, &reached.numbers)?;
         put_verdict(dump.given(reached.verdict, reached.by), output)?;
         output.put(b" by ")?;
         put_decider(dump, reached.by, output)?;
