@@ -1,5 +1,5 @@
 -- Boxes of packets, place by place.
-use Rattle.std.proofs.Common.{◌≡◌, ◌≢◌, inl, inr, ℕ, zero, suc, ◌+◌, ◌-◌, ◌<◌, ◌≤◌, Bool, true, false, cond, ◌&&◌, not, ◌==◌, ◌||◌, List, [], ◌∷◌, ◌++◌, length, get_or, map, refl, sym, ◌∙◌, ap, arith, subst, ◌⊎◌, below_more, slice_index, lt-ltb, le-ltb, le-leb, leb-true, eq-eqb, ne_eqb, eqb-true, true≢false, get_or-set_same, get_or-set_other}
+use Rattle.std.proofs.Common.{◌≡◌, ◌≢◌, inl, inr, ℕ, zero, suc, ◌+◌, ◌-◌, ◌<◌, ◌≤◌, Bool, true, false, true≢false, cond, ◌&&◌, not, ◌==◌, ◌||◌, List, [], ◌∷◌, ◌++◌, length, get_or, map, refl, sym, ◌∙◌, ap, arith, subst, ◌⊎◌, below_more, slice_index, lt-ltb, le-ltb, le-leb, leb-true, eq-eqb, ne_eqb, eqb-true, true≢false, get_or-set_same, get_or-set_other}
 use Rattle.std.specs.List.{list_all}
 use Rattle.std.proofs.Math.Dec.{eqb, leb}
 use Rattle.std.proofs.Math.ListN.{set}
@@ -24,7 +24,7 @@ use Rattle.rules.proofs.laws.rule.CrossLaws as ports
 use Rattle.classify.specs.Classifier.{IsPoint, box_allows, box_matches}
 use Rattle.classify.proofs.laws.classifier.ClassifierLaws.{field_at}
 use Rattle.questions.specs.boxes.Boxes.{Has, HasNumbers, HasOwnInterfaces, IsAtHook, IsBoth, IsIn, IsNarrowed, may_have, is_without}
-use Rattle.questions.specs.boxes.Cut.{IsInSome, IsApart, IsCut, IsPartedFor}
+use Rattle.questions.specs.boxes.Cut.{IsInSome, IsApart, IsCut, IsPartedFor, MatchesAll}
 use Rattle.questions.specs.steps.Sides.{no_set, has_at, takes, HasOne, IsSide, IsPart, IsBeginning, LeavesAt}
 
 pub same_truth : (a b : Bool) → (a ≡ true → b ≡ true) → (b ≡ true → a ≡ true) → a ≡ b
@@ -358,6 +358,21 @@ pub none_in : (boxes : List (List SpanSet)) (numbers : List ℕ) → boxes ≡ [
 none_in boxes numbers e some = absurd (omega (arith, some.1.1, ap (λ (bs : List (List SpanSet)). length bs) e))
 
 -- ---- what a rule makes of a box
+
+-- a rule that matches all of a box leaves nothing outside
+pub whole_cut : (rule : Rule) (box : List SpanSet) → MatchesAll rule box → IsCut rule box box []
+whole_cut rule box all = record {
+  matched = λ numbers point has m. has;
+  others = λ numbers point has un. absurd (true≢false (sym (all numbers point has) ∙ un));
+  only = λ numbers point has. (has, all numbers point has);
+  rest = λ numbers point some. absurd (none_in [] numbers refl some);
+}
+
+-- it matches all of a box that lies in its own, if it asks no two fields at once
+pub all_of_box : (rule : Rule) (area box : List SpanSet) → IsBoxOf rule box → ((numbers : List ℕ) → Has area numbers → Has box numbers)
+    → ((numbers : List ℕ) → cross numbers rule ≡ true) → MatchesAll rule area
+all_of_box rule area box is inside holds = λ numbers point here.
+    and_from (allows_each numbers rule) (cross numbers rule) (sym (box_of_rule rule box numbers is point) ∙ (inside numbers here).each) (holds numbers)
 
 pub has_of_rule : (rule : Rule) (box : List SpanSet) (numbers : List ℕ) → IsBoxOf rule box → IsPoint numbers → matches numbers rule ≡ true → Has box numbers
 has_of_rule rule box numbers is point m = record { each = box_of_rule rule box numbers is point ∙ (and_parts (allows_each numbers rule) (cross numbers rule) m).0 }

@@ -28,11 +28,12 @@ use Rattle.questions.specs.declared.walking.scope.Scope.{Scope}
 use Rattle.questions.specs.declared.walking.task.Pending.{Pending}
 use Rattle.questions.specs.Scopes.{Known, entries_by, answered, is_met, known_by, table_of, under}
 use Rattle.questions.specs.declared.walking.task.Task.{Task}
-use Rattle.questions.specs.boxes.Cut.{IsApart, IsCut, IsPartedFor}
+use Rattle.questions.specs.boxes.Cut.{IsApart, IsCut, IsPartedFor, MatchesAll}
 use Rattle.questions.specs.declared.foreign.answers.Answer.{Answer}
 use Rattle.questions.specs.declared.foreign.subject.Subject.{Subject}
 use Rattle.questions.specs.declared.walking.front.Front.{Front}
-use Rattle.questions.proofs.laws.WaitLaws.{reaches_more, rests_push, apart_moves, cut_moves, cut_parts, handed_moves, moves_same, never_parts, only_one, parted_moves, wrong_moves, wrong_passes}
+use Rattle.questions.proofs.laws.AreaLaws.{none_in, whole_cut}
+use Rattle.questions.proofs.laws.WaitLaws.{reaches_more, rests_push, apart_moves, cut_moves, cut_parts, handed_moves, keeps_all, moves_same, never_parts, only_one, parted_moves, wrong_moves, wrong_passes}
 use Rattle.questions.proofs.laws.ForeignLaws.{left_sound}
 use Rattle.questions.proofs.laws.ResolvedLaws.{resolved_apart, rule_left, there_left, passed_left, rule_goes, rule_stays, never_apart, never_matches}
 use Rattle.questions.proofs.laws.TrailLaws.{few_entries, held_trail, missed_trail, step_before}
@@ -177,6 +178,14 @@ one_passes t known policy box answers stage old new h = record {
   keeps = h.keeps;
 }
 
+-- no box does
+none_passes : (t : Table) (known : Known) (policy : Verdict) (answers : List Answer) (stage : Stage) (front : Front) → PassesOver t known policy [] answers stage front front
+none_passes t known policy answers stage front = record {
+  passed = λ p asked some reaches. absurd (none_in [] p.values refl some.inside);
+  fits = λ start p asked fit before. before;
+  keeps = keeps_all t known front;
+}
+
 -- ---- a rule that is followed
 
 -- its step is met if all holds that it needs
@@ -283,3 +292,9 @@ module _ (s : Subject) (a : Assignment) (sound : IsSound (table_of s)) (policy :
               wrong_passes t known policy (under box answers) (under inside answers) outside here after followed old mid new wrong wrong over h)
         ]
       ]
+
+  -- a rule that matches all of the box is followed by it
+  pub followed_all : (box : List SpanSet) (answers : List Answer) (old new : Front) → MatchesAll rule box → CanFollow needs answers (target_of rule) → length trail < 65536
+      → Moves t known policy (under box answers) followed old new → Moves t known policy (under box answers) here old new
+  followed_all box answers old new all can room h =
+      followed_on box box answers [] old old new (whole_cut rule box all) can room (none_passes t known policy answers after old) h

@@ -21,7 +21,7 @@ use Rattle.questions.specs.declared.walking.front.Front.{Front}
 use Rattle.questions.specs.declared.walking.scope.Scope.{Scope}
 use Rattle.questions.specs.declared.walking.task.Leaf.{Leaf}
 use Rattle.questions.specs.declared.walking.task.Task.{Task}
-use Rattle.questions.specs.steps.Taken.{AddsBoxes, AddsOne, AddsParts, AreApart, AreParts, IsWithin, scopes_of, AddsTasks, Enters, GetsOn, IsAnswered, IsBesides, IsEntered, IsNeededNext, IsPut, IsTurned, WaitAfter}
+use Rattle.questions.specs.steps.Taken.{IsGoneWith, AddsBoxes, AddsOne, AddsParts, AreApart, AreParts, IsWithin, scopes_of, AddsTasks, Enters, GetsOn, IsAnswered, IsBesides, IsEntered, IsNeededNext, IsPut, IsTurned, WaitAfter}
 use Rattle.questions.specs.declared.foreign.need.Need.{Need}
 use Rattle.questions.specs.declared.walking.task.Pending.{Pending}
 use Rattle.questions.specs.steps.Waiting.{rule_ahead}
@@ -305,13 +305,19 @@ module _ (t : Whole) (scope : Scope) (below : List Pending) (at : Pending) (trai
   besides_past boxes = adds_weaker (IsBesides boxes scope.answers (below ++ behind at ∷ []) trail) (GetsOn t scope (below ++ at ∷ []) trail) old new
       (λ next put. inr (inl (record { below = below; at = at; newest = refl; there = put.there })))
 
-  -- by this rule, which matched and goes to no chain of its own
-  pub matched_on : (chains : List Chain) (to : Option Target) → ((name : List ℕ) → to ≡ Some (target.Goto name) → position (is_named name) chains ≡ Some at.chain → ⊥)
+  -- by this rule, which matches all of the box and goes to no chain of its own
+  pub matched_all : (chains : List Chain) (to : Option Target) → ((name : List ℕ) → to ≡ Some (target.Goto name) → position (is_named name) chains ≡ Some at.chain → ⊥)
       → AddsTasks (IsTurned chains to below (behind at) (trail ++ record { chain = at.chain; number = at.passed + 1 } ∷ [])) old new
-      → AddsTasks (GetsOn t scope (below ++ at ∷ []) trail) old new
-  matched_on chains to apart =
-      adds_weaker (IsTurned chains to below (behind at) (trail ++ record { chain = at.chain; number = at.passed + 1 } ∷ [])) (GetsOn t scope (below ++ at ∷ []) trail) old new
+      → AddsTasks (IsGoneWith t.needs scope.answers (below ++ at ∷ []) trail) old new
+  matched_all chains to apart =
+      adds_weaker (IsTurned chains to below (behind at) (trail ++ record { chain = at.chain; number = at.passed + 1 } ∷ [])) (IsGoneWith t.needs scope.answers (below ++ at ∷ []) trail) old new
       (λ next is. inl (record { below = below; at = at; newest = refl; on = is.trail; moved = moved_by chains to below at next.rests.items apart is.rests }))
+
+  -- so it got on
+  pub gone_on : AddsTasks (IsGoneWith t.needs scope.answers (below ++ at ∷ []) trail) old new → AddsTasks (GetsOn t scope (below ++ at ∷ []) trail) old new
+  gone_on =
+      adds_weaker (IsGoneWith t.needs scope.answers (below ++ at ∷ []) trail) (GetsOn t scope (below ++ at ∷ []) trail) old new
+      (λ next is. elim is [ inl on ↦ inl on | inr answered ↦ inr (inr (inr (inl answered))) ])
 
   -- as parts of the box, by ports that the rule lists
   pub parts_on : (rule : Rule) (parts : List (List SpanSet)) → rule ≡ rule_ahead t.table at → All (IsPortPart rule scope.area) parts → AddsTasks (IsBesides parts scope.answers (below ++ at ∷ []) trail) old new

@@ -31,6 +31,10 @@ pub record IsCut (rule : Rule) (box inside : List SpanSet) (outside : List (List
 abbrev pub IsAllowedIn : Rule → List SpanSet → Type 0
 IsAllowedIn rule box = (numbers : List ℕ) × IsPoint numbers × Has box numbers × (allows_each numbers rule ≡ true)
 
+-- the rule matches all of the box
+abbrev pub MatchesAll : Rule → List SpanSet → Type 0
+MatchesAll rule box = (numbers : List ℕ) → IsPoint numbers → Has box numbers → matches numbers rule ≡ true
+
 -- the rule matches none of the box
 pub record IsApart (rule : Rule) (box : List SpanSet) : Type 0 where
   pub none : (numbers : List ℕ) → IsPoint numbers → Has box numbers → matches numbers rule ≡ false

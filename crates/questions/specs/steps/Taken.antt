@@ -162,6 +162,10 @@ pub record IsPartOf (t : Table) (own : Scope) (waiting : List Pending) (steps : 
   pub answers : next.scope.answers ≡ own.answers
   pub there : IsPlaced waiting steps next
 
+-- the next rule of the newest chain, which matches all packets of a task, took it: the rule is on its trail, or a condition that it needs is answered
+abbrev pub IsGoneWith : List (List (List Need)) → List Answer → List Pending → List Step → Task → Type 0
+IsGoneWith needs given rests trail next = IsMatched rests trail next ⊎ IsAnswered needs given rests trail next
+
 -- A task got on from a scope with these chains that wait and this trail. The next rule of the newest chain matched, or is behind it; or that chain was
 -- left; or one more condition is answered that the rule needs; or ports that the rule lists part its packets.
 abbrev pub GetsOn : Whole → Scope → List Pending → List Step → Task → Type 0

@@ -1,6 +1,6 @@
 //! A box of packets cut by a rule: the packets that it matches, and parts with all the others; or, where that depends
 //! on both ports, parts on which the rule has to be tested again.
-ghost use Rattle.std.specs.Prelude.{◌≡◌, ◌<◌, ◌≤◌, ◌⊎◌, ℕ, true, List, All, length, IfOk, OnOk};
+ghost use Rattle.std.specs.Prelude.{◌≡◌, ◌<◌, ◌≤◌, ◌⊎◌, ℕ, true, List, All, length, IfOk, IsTrue, OnOk};
 ghost use Rattle.fields.specs.numbers.Spans.{SpanSet};
 ghost use Rattle.fields.specs.numbers.Field.{top};
 ghost use Rattle.rules.specs.Boxed.{IsBox, IsBoxOf, set_on};
@@ -9,11 +9,11 @@ ghost use Rattle.rules.specs.rule.Crossing.{IsListedByRule, IsParted};
 ghost use Rattle.rules.specs.rule.Rules.{Rule};
 ghost use Rattle.classify.specs.Classifier.{IsPoint};
 ghost use Rattle.questions.specs.boxes.Boxes.{Has, HasNumbers, IsBoth};
-ghost use Rattle.questions.specs.boxes.Cut.{IsCutBy, IsInSome, AreMet, AreByPorts, AreDisjoint, AreFew, IsSideOf, boxes_of};
+ghost use Rattle.questions.specs.boxes.Cut.{IsCutBy, IsInSome, AreMet, AreByPorts, AreDisjoint, AreFew, IsSideOf, MatchesAll, boxes_of};
 ghost use Rattle.questions.specs.steps.Sides.{AddsLeaving, LeavesAt};
 
 use crate::boxes::area::Area;
-use crate::boxes::lying::is_part;
+use crate::boxes::lying::{is_part, lies_in};
 use crate::boxes::meeting::meet;
 use fields::{FIELDS, Field, Spans};
 use rules::{Boxed, Crossing, Rule, cross_ports};
@@ -139,6 +139,14 @@ fn cut_apart(
     let parts = halves(alloc, inside, field, listed)?;
     let others = outside(alloc, area.sets(), boxed.spans())?;
     Ok(Cut::ByPorts(parts, others))
+}
+
+// Whether a rule matches all packets of a box, where it asks no two ports at once. It takes no memory.
+pub(crate) fn matches_all(rule: &Rule, boxed: &Boxed, area: &Area) -> bool
+    requires { IsBoxOf rule.now boxed.now }
+    ensures { IsTrue result → MatchesAll rule.now area.now }
+{
+    !rule.asks_both() && lies_in(area.sets(), boxed.spans())
 }
 
 // Cuts a box by a rule. Where the rule's box has packets in common with it, that costs one meeting of two sets a field, and

@@ -10,11 +10,12 @@ ghost use Rattle.questions.specs.Foreign.{Agrees, Assignment, IsNeeded, IsUnansw
 ghost use Rattle.questions.specs.Scopes.{Known, answered, entries_by, is_met, known_by, table_of, whole_of};
 ghost use Rattle.questions.specs.declared.foreign.need.Need.{Need as Needed};
 ghost use Rattle.questions.specs.steps.Straying.{Stays, CanAsk, IsBranch, IsNeededBy, target_at};
-ghost use Rattle.questions.specs.steps.Waiting.{KeepsAsked, AreNamedAlike, AreThere, IsLastMet, IsThere, Moves, PassesOver, rest_of, rests_of, stage_at};
-ghost use Rattle.questions.specs.steps.Taken.{AddsTasks, GetsOn, IsAnswered, IsBesides, IsEntered, IsNeededNext, IsPut, IsTurned, AddsBoxes, AddsOne, AddsParts};
+ghost use Rattle.questions.specs.steps.Waiting.{KeepsAsked, AreNamedAlike, AreThere, IsLastMet, IsThere, Moves, PassesOver, rest_of, rests_of, rule_ahead, stage_at};
+ghost use Rattle.questions.specs.boxes.Cut.{MatchesAll};
+ghost use Rattle.questions.specs.steps.Taken.{AddsTasks, GetsOn, IsAnswered, IsBesides, IsEntered, IsGoneWith, IsNeededNext, IsPut, IsTurned, AddsBoxes, AddsOne, AddsParts};
 
 use crate::boxes::area::Area;
-use crate::boxes::cut::{Cut, cut_by};
+use crate::boxes::cut::{Cut, cut_by, matches_all};
 use crate::foreign::answers::Answers;
 use crate::foreign::need::{Need, Standing, known_of};
 use crate::foreign::subject::Subject;
@@ -174,8 +175,45 @@ fn branch_of(needs: &[Need], answers: &Answers, rule: &Rule) -> Branch
     }
 }
 
-// Cuts a box by the next rule of a chain: the packets that the rule's box has follow its target, or part by an open condition; the others
-// go on behind it. Where that depends on both ports, the box is parted by ports first, and the rule is tested again on its parts.
+// The packets of a box, all of which the next rule of a chain matches, follow its target, or part by an open condition.
+fn go_with(
+    subject: &Subject<'_>,
+    front: &mut Front,
+    task: Task,
+    at: Pending,
+    parted: Option<usize>,
+) -> Result<(), AllocError>
+    requires there { IsThere (table_of subject.now).chains at }
+    requires passed { at.passed < length (chain_at (table_of subject.now) at.chain).rules }
+    requires rests { AreThere (table_of subject.now).chains task }
+    requires room { length task.trail.items < 65536 }
+    requires all { MatchesAll (rule_ahead (table_of subject.now) at) task.scope.area }
+    requires needed { IfSome parted (IsNeededNext subject.now.needs.now at) }
+    requires parted { CanAsk (needs_at subject.now.needs.now at.chain at.passed) task.scope.answers (target_at (table_of subject.now) at) parted }
+    ensures moves { OnOk result ((a : Assignment) (policy : Verdict)
+        → Moves (answered subject.now a) (known_by subject.now a) policy task.scope
+        (stage_at (known_by subject.now a) (answered subject.now a).chains at task) front.old front.new) }
+    ensures asked { OnOk result (KeepsAsked subject.now.needs.now task.scope.answers front.old front.new) }
+    ensures on { OnOk result (AddsTasks (IsGoneWith subject.now.needs.now task.scope.answers (task.rests.items ++ at ∷ []) task.trail.items) front.old front.new) }
+    ensures parts { OnOk result (AddsParts 2 task.scope front.old front.new) }
+{
+    let table = &subject.boxed.table;
+    table.stands();
+    let count = table.rule_count(at.chain);
+    prove!(at.passed < count);
+    if let Some(condition) = parted {
+        return part(front, task, at, condition);
+    }
+    let rule = table.rule(at.chain, at.passed + 1);
+    let behind = Pending {
+        chain: at.chain,
+        passed: at.passed + 1,
+    };
+    follow(table, front, task, behind, rule)
+}
+
+// Cuts a box by the next rule of a chain: the packets that the rule matches go with it; the others go on behind it. A box of which it matches all
+// packets isn't copied. Where that depends on both ports, the box is parted by ports first, and the rule is tested again on its parts.
 fn cut(
     subject: &Subject<'_>,
     front: &mut Front,
@@ -202,6 +240,9 @@ fn cut(
     prove!(at.passed < count);
     let rule = table.rule(at.chain, at.passed + 1);
     let boxed = subject.boxed.at(at.chain, at.passed + 1);
+    if matches_all(rule, boxed, &task.scope.area) {
+        return go_with(subject, front, task, at, parted);
+    }
     let behind = Pending {
         chain: at.chain,
         passed: at.passed + 1,
@@ -211,10 +252,7 @@ fn cut(
         Cut::Parts(inside, outside) => {
             pass_over(front, outside, &task, behind)?;
             task.scope.area = inside;
-            match parted {
-                None => follow(table, front, task, behind, rule),
-                Some(condition) => part(front, task, at, condition),
-            }
+            go_with(subject, front, task, at, parted)
         }
         Cut::ByPorts(again, outside) => {
             pass_over(front, outside, &task, behind)?;

@@ -1,19 +1,18 @@
-use Rattle.std.proofs.Common.{◌+◌, ◌-◌, [], ◌∷◌, ◌++◌, length, arith, length-append, inr, inl}
+use Rattle.std.proofs.Common.{◌+◌, ◌-◌, [], ◌∷◌, ◌++◌, length, arith, length-append}
 use Rattle.fields.specs.numbers.Field.{all_fields}
 use Rattle.std.proofs.lemmas.Result.{on_ok_weaker}
-use Rattle.rules.specs.rule.Actions.{target_of}
 use Rattle.table.specs.chains.Table.{chain_at}
 use Rattle.questions.specs.Scopes.{answered, known_by, table_of, whole_of}
+use Rattle.questions.specs.boxes.Cut.{MatchesAll}
 use Rattle.questions.specs.steps.Waiting.{rests_of}
 use Rattle.questions.proofs.laws.BoxesLaws.{own_box}
-use Rattle.questions.proofs.laws.BranchLaws.{apart_on, followed_on, met_or_stays, parted_on, split_on, rule_here}
-use Rattle.questions.proofs.laws.ResolvedLaws.{all_left, names_same, there_left}
+use Rattle.questions.proofs.laws.BranchLaws.{apart_on, parted_on, split_on, rule_here}
+use Rattle.questions.proofs.laws.ResolvedLaws.{all_left, there_left}
 use Rattle.questions.specs.declared.walking.task.Pending.{Pending}
 use Rattle.questions.specs.declared.walking.task.Task.{Task}
-use Rattle.questions.specs.steps.Taken.{GetsOn, IsAnswered}
-use Rattle.questions.proofs.laws.PartedLaws.{adds_more, besides_past, matched_on, parts_on, put_past, boxes_more, boxes_part, cut_then, more_parts, one_part, adds_weaker}
+use Rattle.questions.specs.steps.Taken.{GetsOn}
+use Rattle.questions.proofs.laws.PartedLaws.{adds_more, besides_past, gone_on, parts_on, put_past, boxes_more, boxes_part, cut_then, more_parts, one_part}
 use Rattle.questions.proofs.laws.PartLaws.{parted_only}
-use Rattle.questions.proofs.laws.LeadLaws.{not_gone_to}
 use Rattle.questions.proofs.walking.turn.cut.Goals as goal
 
 pub cut_by-requires : goal.cut_by-requires
@@ -29,38 +28,6 @@ returns-in-Apart-clause-moves c =
     apart_on s a c.stands.ensures.sound policy c.args.at c.requires.there c.rule-rule.result.now c.requires.passed c.rule-rule.ensures (rests_of (answered s a).chains c.args.task.rests.items) c.args.task.trail.items
     c.args.task.scope c.args.front.now c.go_on.new.front apart
     (h (answered s a) (known_by s a) policy (there_left s.needs.now a own c.args.at.chain c.requires.there) (all_left s.needs.now a own c.args.task.rests.items c.requires.rests))) c.go_on.ensures.moves
-
-pub returns-in-None-clause-moves : goal.returns-in-None-clause-moves
-returns-in-None-clause-moves c =
-    let s = c.args.subject.now in
-    let own = table_of s in
-    let rule = c.rule-rule.result.now in
-    let cut = rw c.in-Parts.is at c.in_ok-cut_by.ensures.cuts in
-    let can = rw (← rule_here own c.args.at rule c.requires.passed c.rule-rule.ensures) at (rw c.in-None.is at c.requires.parted) in
-    on_ok_weaker c.follow.result (λ h a policy.
-    let t = answered s a in
-    let known = known_by s a in
-    let there = there_left s.needs.now a own c.args.at.chain c.requires.there in
-    let all = all_left s.needs.now a own c.args.task.rests.items c.requires.rests in
-    followed_on s a c.stands.ensures.sound policy c.args.at c.requires.there rule c.requires.passed c.rule-rule.ensures (rests_of t.chains c.args.task.rests.items) c.args.task.trail.items
-    c.args.task.scope.area c.in-Parts.inside c.args.task.scope.answers c.in-Parts.outside.items c.args.front.now c.pass_over.new.front c.follow.new.front cut can c.requires.room
-    (c.in_ok-pass_over-in-Parts.ensures.moves t known policy there all)
-    (h t known policy (names_same s.needs.now a own.chains) there all (met_or_stays s a c.args.at c.args.task.scope.answers (target_of rule) can))) c.follow.ensures.moves
-
-pub returns-in-Some-clause-moves : goal.returns-in-Some-clause-moves
-returns-in-Some-clause-moves c =
-    let s = c.args.subject.now in
-    let own = table_of s in
-    let cut = rw c.in-Parts.is at c.in_ok-cut_by.ensures.cuts in
-    on_ok_weaker c.part.result (λ h a policy.
-    let t = answered s a in
-    let known = known_by s a in
-    let there = there_left s.needs.now a own c.args.at.chain c.requires.there in
-    let all = all_left s.needs.now a own c.args.task.rests.items c.requires.rests in
-    split_on s a c.stands.ensures.sound policy c.args.at c.requires.there c.rule-rule.result.now c.requires.passed c.rule-rule.ensures (rests_of t.chains c.args.task.rests.items) c.args.task.trail.items
-    c.args.task.scope.area c.in-Parts.inside c.args.task.scope.answers c.in-Parts.outside.items c.args.front.now c.pass_over.new.front c.part.new.front cut
-    (c.in_ok-pass_over-in-Parts.ensures.moves t known policy there all)
-    (h t known policy there all)) c.part.ensures.moves
 
 pub returns-in_ok-pass_over-in-ByPorts-clause-moves : goal.returns-in_ok-pass_over-in-ByPorts-clause-moves
 returns-in_ok-pass_over-in-ByPorts-clause-moves c =
@@ -82,29 +49,6 @@ returns-in-Apart-clause-on c =
     let at : Pending = c.args.at in
     on_ok_weaker c.go_on.result (λ h. put_past (whole_of c.args.subject.now) c.args.task.scope c.args.task.rests.items at c.args.task.trail.items c.args.front.now c.go_on.new.front h) c.go_on.ensures.on
 
-pub returns-in-None-clause-on : goal.returns-in-None-clause-on
-returns-in-None-clause-on c =
-    let whole = whole_of c.args.subject.now in
-    let rule = c.rule-rule.result.now in
-    let task = c.args.task in
-    let at : Pending = c.args.at in
-    let On : Task → Type 0 = GetsOn whole task.scope (task.rests.items ++ at ∷ []) task.trail.items in
-    on_ok_weaker c.follow.result (λ h. adds_more On c.args.front.now c.pass_over.new.front c.follow.new.front
-    (besides_past whole task.scope task.rests.items at task.trail.items c.args.front.now c.pass_over.new.front c.in-Parts.outside.items c.in_ok-pass_over-in-Parts.ensures.on)
-    (matched_on whole task.scope task.rests.items at task.trail.items c.pass_over.new.front c.follow.new.front whole.table.chains (target_of rule)
-    (λ name to. not_gone_to whole.table at rule name c.stands.ensures.sound c.requires.there c.requires.passed c.rule-rule.ensures to) h)) c.follow.ensures.on
-
-pub returns-in-Some-clause-on : goal.returns-in-Some-clause-on
-returns-in-Some-clause-on c =
-    let whole = whole_of c.args.subject.now in
-    let task = c.args.task in
-    let at : Pending = c.args.at in
-    let rests = task.rests.items ++ at ∷ [] in
-    let On : Task → Type 0 = GetsOn whole task.scope rests task.trail.items in
-    on_ok_weaker c.part.result (λ h. adds_more On c.args.front.now c.pass_over.new.front c.part.new.front
-    (besides_past whole task.scope task.rests.items at task.trail.items c.args.front.now c.pass_over.new.front c.in-Parts.outside.items c.in_ok-pass_over-in-Parts.ensures.on)
-    ((adds_weaker (IsAnswered whole.needs task.scope.answers rests task.trail.items) (GetsOn whole task.scope rests task.trail.items) c.pass_over.new.front c.part.new.front (λ next is. inr (inr (inr (inl is))))) (h whole.needs (rw c.in-Some.is at c.requires.needed)))) c.part.ensures.on
-
 pub returns-in_ok-pass_over-in-ByPorts-clause-on : goal.returns-in_ok-pass_over-in-ByPorts-clause-on
 returns-in_ok-pass_over-in-ByPorts-clause-on c =
     let whole = whole_of c.args.subject.now in
@@ -122,18 +66,6 @@ pub returns-in-Apart-clause-parts : goal.returns-in-Apart-clause-parts
 returns-in-Apart-clause-parts c =
     on_ok_weaker c.go_on.result (λ h. more_parts 1 (length all_fields + 2) c.args.task.scope c.args.front.now c.go_on.new.front (omega arith) (one_part c.args.task.scope c.args.front.now c.go_on.new.front h)) c.go_on.ensures.one
 
-pub returns-in-None-clause-parts : goal.returns-in-None-clause-parts
-returns-in-None-clause-parts c =
-    let said = c.in_ok-cut_by.ensures in
-    on_ok_weaker c.follow.result (cut_then c.args.task.scope.area c.args.task.scope.answers c.rule-rule.result.now 1 c.in-Parts.inside c.in-Parts.outside.items c.args.front.now c.pass_over.new.front c.follow.new.front
-    (rw c.in-Parts.is at said.cuts) (rw c.in-Parts.is at said.disjoint) (rw c.in-Parts.is at said.few) (omega arith) c.in_ok-pass_over-in-Parts.ensures.boxes) c.follow.ensures.parts
-
-pub returns-in-Some-clause-parts : goal.returns-in-Some-clause-parts
-returns-in-Some-clause-parts c =
-    let said = c.in_ok-cut_by.ensures in
-    on_ok_weaker c.part.result (cut_then c.args.task.scope.area c.args.task.scope.answers c.rule-rule.result.now 2 c.in-Parts.inside c.in-Parts.outside.items c.args.front.now c.pass_over.new.front c.part.new.front
-    (rw c.in-Parts.is at said.cuts) (rw c.in-Parts.is at said.disjoint) (rw c.in-Parts.is at said.few) (omega arith) c.in_ok-pass_over-in-Parts.ensures.boxes) c.part.ensures.parts
-
 pub returns-in_ok-pass_over-in-ByPorts-clause-parts : goal.returns-in_ok-pass_over-in-ByPorts-clause-parts
 returns-in_ok-pass_over-in-ByPorts-clause-parts c =
     let scope = c.args.task.scope in
@@ -149,17 +81,57 @@ returns-in_ok-pass_over-in-ByPorts-clause-parts c =
 pub returns-in-Apart-clause-asked : goal.returns-in-Apart-clause-asked
 returns-in-Apart-clause-asked c = on_ok_weaker c.go_on.result (λ h. h c.args.subject.now.needs.now) c.go_on.ensures.asked
 
-pub returns-in-None-clause-asked : goal.returns-in-None-clause-asked
-returns-in-None-clause-asked c =
-    let needs = c.args.subject.now.needs.now in
-    on_ok_weaker c.follow.result (λ h given own all. h needs given own (c.in_ok-pass_over-in-Parts.ensures.asked needs given own all)) c.follow.ensures.asked
-
-pub returns-in-Some-clause-asked : goal.returns-in-Some-clause-asked
-returns-in-Some-clause-asked c =
-    let needs = c.args.subject.now.needs.now in
-    on_ok_weaker c.part.result (λ h given own all. h needs (c.args.at.chain, c.args.at.passed, rw c.in-Some.is at c.requires.needed) given own (c.in_ok-pass_over-in-Parts.ensures.asked needs given own all)) c.part.ensures.asked
-
 pub returns-in_ok-pass_over-in-ByPorts-clause-asked : goal.returns-in_ok-pass_over-in-ByPorts-clause-asked
 returns-in_ok-pass_over-in-ByPorts-clause-asked c =
     let needs = c.args.subject.now.needs.now in
     on_ok_weaker c.pass_over-in-ByPorts-2.result (λ h given own all. h needs given own (c.in_ok-pass_over-in-ByPorts.ensures.asked needs given own all)) c.pass_over-in-ByPorts-2.ensures.asked
+
+pub go_with-requires-clause-all : goal.go_with-requires-clause-all
+go_with-requires-clause-all c =
+    rw (rule_here (table_of c.args.subject.now) c.args.at c.rule-rule.result.now c.requires.passed c.rule-rule.ensures) at (c.matches_all.ensures c.if-matches_all.true)
+
+pub returns-then-matches_all-clause-on : goal.returns-then-matches_all-clause-on
+returns-then-matches_all-clause-on c =
+    on_ok_weaker c.go_with.result (gone_on (whole_of c.args.subject.now) c.args.task.scope c.args.task.rests.items c.args.at c.args.task.trail.items c.args.front.now c.go_with.new.front) c.go_with.ensures.on
+
+pub go_with-requires-in-Parts-clause-all : goal.go_with-requires-in-Parts-clause-all
+go_with-requires-in-Parts-clause-all c =
+    let cut = rw c.in-Parts.is at c.in_ok-cut_by.ensures.cuts in
+    let all : MatchesAll c.rule-rule.result.now c.in-Parts.inside = λ numbers point here. (cut.only numbers point here).1 in
+    rw (rule_here (table_of c.args.subject.now) c.args.at c.rule-rule.result.now c.requires.passed c.rule-rule.ensures) at all
+
+pub returns-in_ok-pass_over-in-Parts-clause-moves : goal.returns-in_ok-pass_over-in-Parts-clause-moves
+returns-in_ok-pass_over-in-Parts-clause-moves c =
+    let s = c.args.subject.now in
+    let own = table_of s in
+    let cut = rw c.in-Parts.is at c.in_ok-cut_by.ensures.cuts in
+    on_ok_weaker c.go_with-in-Parts.result (λ h a policy.
+    let t = answered s a in
+    let known = known_by s a in
+    let there = there_left s.needs.now a own c.args.at.chain c.requires.there in
+    let all = all_left s.needs.now a own c.args.task.rests.items c.requires.rests in
+    split_on s a c.stands.ensures.sound policy c.args.at c.requires.there c.rule-rule.result.now c.requires.passed c.rule-rule.ensures (rests_of t.chains c.args.task.rests.items) c.args.task.trail.items
+    c.args.task.scope.area c.in-Parts.inside c.args.task.scope.answers c.in-Parts.outside.items c.args.front.now c.pass_over.new.front c.go_with-in-Parts.new.front cut
+    (c.in_ok-pass_over-in-Parts.ensures.moves t known policy there all)
+    (h a policy)) c.go_with-in-Parts.ensures.moves
+
+pub returns-in_ok-pass_over-in-Parts-clause-asked : goal.returns-in_ok-pass_over-in-Parts-clause-asked
+returns-in_ok-pass_over-in-Parts-clause-asked c =
+    let needs = c.args.subject.now.needs.now in
+    on_ok_weaker c.go_with-in-Parts.result (λ h given own all. h given own (c.in_ok-pass_over-in-Parts.ensures.asked needs given own all)) c.go_with-in-Parts.ensures.asked
+
+pub returns-in_ok-pass_over-in-Parts-clause-on : goal.returns-in_ok-pass_over-in-Parts-clause-on
+returns-in_ok-pass_over-in-Parts-clause-on c =
+    let whole = whole_of c.args.subject.now in
+    let task = c.args.task in
+    let at : Pending = c.args.at in
+    let On : Task → Type 0 = GetsOn whole task.scope (task.rests.items ++ at ∷ []) task.trail.items in
+    on_ok_weaker c.go_with-in-Parts.result (λ h. adds_more On c.args.front.now c.pass_over.new.front c.go_with-in-Parts.new.front
+    (besides_past whole task.scope task.rests.items at task.trail.items c.args.front.now c.pass_over.new.front c.in-Parts.outside.items c.in_ok-pass_over-in-Parts.ensures.on)
+    (gone_on whole task.scope task.rests.items at task.trail.items c.pass_over.new.front c.go_with-in-Parts.new.front h)) c.go_with-in-Parts.ensures.on
+
+pub returns-in_ok-pass_over-in-Parts-clause-parts : goal.returns-in_ok-pass_over-in-Parts-clause-parts
+returns-in_ok-pass_over-in-Parts-clause-parts c =
+    let said = c.in_ok-cut_by.ensures in
+    on_ok_weaker c.go_with-in-Parts.result (cut_then c.args.task.scope.area c.args.task.scope.answers c.rule-rule.result.now 2 c.in-Parts.inside c.in-Parts.outside.items c.args.front.now c.pass_over.new.front c.go_with-in-Parts.new.front
+    (rw c.in-Parts.is at said.cuts) (rw c.in-Parts.is at said.disjoint) (rw c.in-Parts.is at said.few) (omega arith) c.in_ok-pass_over-in-Parts.ensures.boxes) c.go_with-in-Parts.ensures.parts
