@@ -343,11 +343,20 @@ fn are_ends(found: &[Reached]) -> bool {
     are_there && found.len() == PORTS.len()
 }
 
-// One box.
-fn alone(alloc: Global, area: Area) -> Result<Vec<Area>, AllocError> {
+// A box alone.
+fn alone(alloc: Global, area: &Area) -> Result<Vec<Area>, AllocError> {
     let mut boxes = Vec::new(alloc);
-    boxes.push(area)?;
+    boxes.push(area.copy(alloc)?)?;
     Ok(boxes)
+}
+
+// The whole TCP packets at INPUT.
+fn whole_tcp(alloc: Global, refusals: &mut Refusals) -> Result<GivenPackets, Trouble> {
+    let area = areas(alloc, refusals)?;
+    Ok(GivenPackets {
+        hook: Hook::Input,
+        boxes: again!(refusals, alone(alloc, &area), true),
+    })
 }
 
 /// `reach`.
@@ -356,10 +365,7 @@ pub fn reached(
     refusals: &mut Refusals,
     subject: &BoxedTable,
 ) -> Result<(), Trouble> {
-    let given = GivenPackets {
-        hook: Hook::Input,
-        boxes: alone(alloc, areas(alloc, refusals)?)?,
-    };
+    let given = whole_tcp(alloc, refusals)?;
     let found = again!(
         refusals,
         reach(alloc, subject, &given, Field::DestinationPort, BUDGET),
