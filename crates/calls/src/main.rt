@@ -87,6 +87,11 @@ fn run_of_answers<R: Print + AllocGlobal>(rt: &R, refusals: &mut Refusals, subje
         "packets by their ports",
         asked::reached(alloc, refusals, subject),
     );
+    tell(
+        rt,
+        "claims about verdicts",
+        asked::claimed(alloc, refusals, subject),
+    );
     tell(rt, "walks", asked::walked(alloc, refusals, subject));
     tell(
         rt,

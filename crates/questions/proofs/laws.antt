@@ -5,6 +5,7 @@ pub mod BoxesLaws
 pub mod BranchLaws
 pub mod CandidateLaws
 pub mod ChoiceLaws
+pub mod ClaimLaws
 pub mod ComingLaws
 pub mod CompareLaws
 pub mod DeleteLaws
@@ -13,6 +14,7 @@ pub mod ElsewhereLaws
 pub mod EqualLaws
 pub mod ExactLaws
 pub mod ForeignLaws
+pub mod GiverLaws
 pub mod IdleLaws
 pub mod LeadLaws
 pub mod LengthLaws
@@ -34,6 +36,7 @@ pub mod StrayLaws
 pub mod TakerLaws
 pub mod TrailLaws
 pub mod TransportLaws
+pub mod VerdictLaws
 pub mod WaitLaws
 pub mod WalksLaws
 pub mod WayLaws

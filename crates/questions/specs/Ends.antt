@@ -1,13 +1,27 @@
 -- Which rule decides the walk of a packet.
-use Rattle.std.specs.Prelude.{◌≡◌, ◌-◌, ◌<◌, ◌≤◌, length, slice_get, slice_index_or, Option, None, option_map, if◌then◌else◌}
+use Rattle.std.specs.Prelude.{◌≡◌, ◌-◌, ◌<◌, ◌≤◌, length, slice_get, slice_index_or, Option, None, Some, option_map, if◌then◌else◌}
 use Rattle.fields.specs.Packet.{PacketView as Packet}
+use Rattle.rules.specs.declared.rule.target.Target.{Target}
+use Rattle.rules.specs.declared.rule.target.Target.TheVariants as target
 use Rattle.rules.specs.rule.Rules.{Rule, empty_rule}
 use Rattle.table.specs.chains.Table.{Table, chain_at}
 use Rattle.table.specs.declared.verdict.Verdict.{Verdict}
+use Rattle.table.specs.declared.verdict.Verdict.TheVariants as verdict
 use Rattle.table.specs.declared.walk.trail.Step.{Step}
 use Rattle.table.specs.walk.Walk.{Entry, Walked, walk}
 use Rattle.questions.specs.Leaves.{entry_of}
 use Rattle.questions.specs.declared.walking.task.Leaf.{Leaf}
+
+-- the verdict that a target gives, if it gives one (iptables(8), TARGETS)
+abbrev pub verdict_given : Option Target → Option Verdict
+verdict_given None = None
+verdict_given (Some target.Accept) = Some verdict.Accept
+verdict_given (Some target.Drop) = Some verdict.Drop
+verdict_given (Some (target.Reject kind)) = Some (verdict.Reject kind)
+verdict_given (Some target.Return) = None
+verdict_given (Some target.Log) = None
+verdict_given (Some (target.Jump chain)) = None
+verdict_given (Some (target.Goto chain)) = None
 
 -- the rule that decides a walk: the last one that matches; none where the policy decides, or where too many rules match
 abbrev pub decider_of : Walked → Option Entry

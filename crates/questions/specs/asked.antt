@@ -1,6 +1,7 @@
 pub mod Alike
 pub mod Always
 pub mod Changes
+pub mod Claims
 pub mod Coming
 pub mod Differing
 pub mod Idle

@@ -1,6 +1,7 @@
 pub mod Answered
 pub mod Before
 pub mod Candidates
+pub mod Claimed
 pub mod Compared
 pub mod Deciding
 pub mod Ending

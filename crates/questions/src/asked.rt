@@ -1,11 +1,13 @@
 //! The questions about all packets, and their answers.
 pub(crate) mod alone;
 pub(crate) mod changes;
+pub(crate) mod claims;
 pub(crate) mod coming;
 pub(crate) mod compare;
 pub(crate) mod ends;
 pub(crate) mod equal;
 pub(crate) mod exact;
+pub(crate) mod givers;
 pub(crate) mod laws;
 pub(crate) mod leading;
 pub(crate) mod likeness;

@@ -12,6 +12,7 @@ mod walking;
 mod written;
 
 pub use asked::changes::{Changes, changes_under};
+pub use asked::claims::{Claimed, check_claim};
 pub use asked::coming::{Coming, comes};
 pub use asked::compare::compare_at_under;
 pub use asked::ends::{End, ends};

@@ -6,8 +6,9 @@ use crate::trouble::{Trouble, expect};
 use crate::written::{Placed, are_words, has_listing, table_of};
 use fields::{Field, Hook, Interval, Spans, Words};
 use questions::{
-    Answers, Area, BoxedTable, GivenPackets, Leaf, Life, Likeness, Need, Needs, Reached, Reason,
-    Scope, Subject, compare_at_under, dead_under, leaves_under, life_under, reach, why_dead_under,
+    Answers, Area, BoxedTable, Claimed, GivenPackets, Leaf, Life, Likeness, Need, Needs, Reached,
+    Reason, Scope, Subject, check_claim, compare_at_under, dead_under, leaves_under, life_under,
+    reach, why_dead_under,
 };
 use rules::Work;
 use std::alloc::{AllocError, Global};
@@ -375,6 +376,28 @@ pub fn reached(
         Some(found) => expect(are_ends(found.as_slice())),
         None => Err(Trouble::OtherAnswer),
     }
+}
+
+/// `check_claim`: some packets are dropped, and no walk is too long.
+pub fn claimed(alloc: Global, refusals: &mut Refusals, boxed: &BoxedTable) -> Result<(), Trouble> {
+    let given = whole_tcp(alloc, refusals)?;
+    let needs = Needs::none(alloc);
+    let subject = Subject {
+        boxed,
+        needs: &needs,
+    };
+    let fails = again!(
+        refusals,
+        check_claim(alloc, &subject, &given, &[Verdict::Drop], BUDGET),
+        has_listing(alloc, &boxed.table, REST)?
+    );
+    expect(matches!(&fails, Claimed::Fails(words, _) if are_to(words, LAST_PORT)))?;
+    let holds = again!(
+        refusals,
+        check_claim(alloc, &subject, &given, &[Verdict::TooLong], BUDGET),
+        has_listing(alloc, &boxed.table, REST)?
+    );
+    expect(matches!(holds, Claimed::Holds))
 }
 
 /// The walks of the whole TCP packets at INPUT, where no rule needs anything.

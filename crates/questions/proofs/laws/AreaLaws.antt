@@ -1,5 +1,5 @@
 -- Boxes of packets, place by place.
-use Rattle.std.proofs.Common.{◌≡◌, ◌≢◌, inl, inr, ℕ, zero, suc, ◌+◌, ◌-◌, ◌<◌, ◌≤◌, Bool, true, false, true≢false, cond, ◌&&◌, not, ◌==◌, ◌||◌, List, [], ◌∷◌, ◌++◌, length, get_or, map, refl, sym, ◌∙◌, ap, arith, subst, ◌⊎◌, below_more, slice_index, lt-ltb, le-ltb, le-leb, leb-true, eq-eqb, ne_eqb, eqb-true, true≢false, get_or-set_same, get_or-set_other}
+use Rattle.std.proofs.Common.{◌≡◌, ◌≢◌, inl, inr, ℕ, zero, suc, ◌+◌, ◌-◌, ◌<◌, ◌≤◌, Bool, true, false, cond, ◌&&◌, not, ◌==◌, ◌||◌, List, [], ◌∷◌, ◌++◌, length, get_or, map, refl, sym, ◌∙◌, ap, arith, subst, ◌⊎◌, below_more, slice_index, lt-ltb, le-ltb, le-leb, leb-true, eq-eqb, ne_eqb, eqb-true, true≢false, get_or-set_same, get_or-set_other}
 use Rattle.std.specs.List.{list_all}
 use Rattle.std.proofs.Math.Dec.{eqb, leb}
 use Rattle.std.proofs.Math.ListN.{set}
@@ -82,6 +82,11 @@ from_places box numbers h = all_true (λ g. box_allows box g (number_on numbers 
 -- the same by fields
 pub from_fields : (box : List SpanSet) (numbers : List ℕ) → ((f : Field) → box_allows box f (number_on numbers f) ≡ true) → Has box numbers
 from_fields box numbers h = record { each = all_true (λ g. box_allows box g (number_on numbers g)) all_fields h }
+
+-- so does the set at a place have the numbers that the box has there
+pub place_set : (box : List SpanSet) (numbers : List ℕ) (k : ℕ) (s : SpanSet) → s ≡ get_or box k s → IsBox box → k < FIELDS → has_at box numbers k ≡ has s.intervals (slice_index numbers k)
+place_set box numbers k s own is lt =
+    ap (λ (y : SpanSet). has y.intervals (slice_index numbers k)) (sym (own ∙ get_or_default box k s no_set (omega (arith, lt, box_long box is))))
 
 -- numbers are within the tops of the sets
 pub within_top : (box : List SpanSet) (numbers : List ℕ) (k : ℕ) (d : SpanSet) → IsBox box → IsPoint numbers → k < FIELDS → slice_index numbers k ≤ (get_or box k d).top
@@ -369,10 +374,10 @@ whole_cut rule box all = record {
 }
 
 -- it matches all of a box that lies in its own, if it asks no two fields at once
-pub all_of_box : (rule : Rule) (area box : List SpanSet) → IsBoxOf rule box → ((numbers : List ℕ) → Has area numbers → Has box numbers)
+pub all_of_box : (rule : Rule) (area box : List SpanSet) → IsBoxOf rule box → ((numbers : List ℕ) → IsPoint numbers → Has area numbers → Has box numbers)
     → ((numbers : List ℕ) → cross numbers rule ≡ true) → MatchesAll rule area
 all_of_box rule area box is inside holds = λ numbers point here.
-    and_from (allows_each numbers rule) (cross numbers rule) (sym (box_of_rule rule box numbers is point) ∙ (inside numbers here).each) (holds numbers)
+    and_from (allows_each numbers rule) (cross numbers rule) (sym (box_of_rule rule box numbers is point) ∙ (inside numbers point here).each) (holds numbers)
 
 pub has_of_rule : (rule : Rule) (box : List SpanSet) (numbers : List ℕ) → IsBoxOf rule box → IsPoint numbers → matches numbers rule ≡ true → Has box numbers
 has_of_rule rule box numbers is point m = record { each = box_of_rule rule box numbers is point ∙ (and_parts (allows_each numbers rule) (cross numbers rule) m).0 }

@@ -1,6 +1,5 @@
 -- The packets that words say, as boxes.
-use Rattle.std.proofs.Common.{◌≡◌, ◌≢◌, ℕ, zero, suc, ◌+◌, ◌<◌, ◌≤◌, Bool, true, false, ◌&&◌, not, cond, ◌==◌, List, [], ◌∷◌, ◌++◌, length, get_or, take, refl, sym, ◌∙◌, ap, subst, arith, eqb-true, true≢false, All, AllPairs, Any}
-use Rattle.std.specs.List.{list_all}
+use Rattle.std.proofs.Common.{◌≡◌, ℕ, zero, suc, ◌+◌, ◌<◌, ◌≤◌, Bool, true, false, ◌&&◌, not, cond, ◌==◌, List, [], length, get_or, take, refl, sym, ◌∙◌, ap, arith, eqb-true, true≢false}
 use Rattle.std.specs.Prelude.{if◌then◌else◌}
 use Rattle.std.proofs.lemmas.Bool.{and_parts}
 use Rattle.std.proofs.lemmas.List.{get_or_default}
@@ -8,16 +7,15 @@ use Rattle.std.proofs.lemmas.List.Folds.{list_all_more}
 use Rattle.fields.specs.declared.numbers.field.Field.{Field}
 use Rattle.fields.specs.declared.numbers.field.Field.TheVariants as field
 use Rattle.fields.specs.declared.packet.hook.Hook.{Hook}
-use Rattle.fields.specs.numbers.Field.{top}
 use Rattle.fields.specs.numbers.Spans.{SpanSet, has}
-use Rattle.fields.specs.Packet.{PacketView as Packet, IsPacket, carries_key, comes_in, goes_out, point}
+use Rattle.fields.specs.Packet.{PacketView as Packet, carries_key, comes_in, goes_out, point}
 use Rattle.fields.specs.values.Protocol.{carries_ports}
 use Rattle.notation.specs.Words.{all_say, says}
 use Rattle.notation.specs.declared.packet_word.PacketWord.{PacketWord}
-use Rattle.questions.specs.boxes.Boxes.{HasOwnInterfaces, IsAtHook, IsIn, IsNarrowed}
+use Rattle.questions.specs.boxes.Boxes.{IsAtHook, IsIn, IsNarrowed}
 use Rattle.questions.specs.boxes.Said.{AreSaid, IsAt}
 use Rattle.questions.specs.declared.boxes.transport.Transport.{Transport}
-use Rattle.questions.specs.declared.boxes.transport.Transport.TheVariants.{Tcp, Ports, Icmp, Other, Missing}
+use Rattle.questions.specs.declared.boxes.transport.Transport.TheVariants.{Tcp}
 use Rattle.questions.specs.steps.Saying.{is_carried, IsAllowed, IsSaidOf, IsSaidWith}
 use Rattle.questions.specs.steps.Transports.{HasTransport, IsWithTransport, all_transports, fragment_of, with_flags, with_ports, with_type}
 use Rattle.questions.proofs.laws.BoxesLaws.{Pair}

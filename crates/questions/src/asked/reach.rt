@@ -33,7 +33,7 @@ pub(crate) struct Given {
 }
 
 // The packets of a box that can be at a hook, as a box.
-fn met(alloc: Global, hook: Hook, area: &Area) -> Result<Given, AllocError>
+pub(crate) fn met(alloc: Global, hook: Hook, area: &Area) -> Result<Given, AllocError>
     ensures { IfOk result (IsMet (record { hook = hook; area = area.now })) }
 {
     let area = Area::at_hook(alloc, hook)?.within(alloc, area.sets())?;

@@ -13,8 +13,9 @@ ghost use Rattle.questions.specs.boxes.Cut.{IsCutBy, IsInSome, AreMet, AreByPort
 ghost use Rattle.questions.specs.steps.Sides.{AddsLeaving, LeavesAt};
 
 use crate::boxes::area::Area;
-use crate::boxes::lying::{is_part, lies_in};
+use crate::boxes::lying::is_part;
 use crate::boxes::meeting::meet;
+use crate::boxes::rule_box::RuleBox;
 use fields::{FIELDS, Field, Spans};
 use rules::{Boxed, Crossing, Rule, cross_ports};
 use std::alloc::{AllocError, Global};
@@ -142,11 +143,11 @@ fn cut_apart(
 }
 
 // Whether a rule matches all packets of a box, where it asks no two ports at once. It takes no memory.
-pub(crate) fn matches_all(rule: &Rule, boxed: &Boxed, area: &Area) -> bool
-    requires { IsBoxOf rule.now boxed.now }
+pub(crate) fn matches_all(rule: &Rule, own: &RuleBox, area: &Area) -> bool
+    requires { IsBoxOf rule.now own.now }
     ensures { IsTrue result → MatchesAll rule.now area.now }
 {
-    !rule.asks_both() && lies_in(area.sets(), boxed.spans())
+    !rule.asks_both() && own.has_all(area)
 }
 
 // Cuts a box by a rule. Where the rule's box has packets in common with it, that costs one meeting of two sets a field, and

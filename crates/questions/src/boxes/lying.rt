@@ -2,7 +2,9 @@
 ghost use Rattle.std.specs.Prelude.{◌≡◌, ◌≤◌, ℕ, List, false, true, IsFalse, IsTrue};
 ghost use Rattle.fields.specs.numbers.Spans.{has};
 ghost use Rattle.rules.specs.Boxed.{IsBox};
+ghost use Rattle.classify.specs.Classifier.{IsPoint};
 ghost use Rattle.questions.specs.boxes.Boxes.{Has, IsNarrower};
+ghost use Rattle.questions.specs.boxes.Cut.{AreWholeBut};
 
 use fields::{FIELDS, Interval, Spans};
 
@@ -42,6 +44,21 @@ pub(crate) fn lies_in(own: &[Spans], other: &[Spans]) -> bool
 {
     for place in 0..FIELDS {
         if !is_part(&own[place], &other[place]) {
+            return false;
+        }
+    }
+    true
+}
+
+// Whether all packets of a box are in another one, given the fields on which this leaves numbers out: no other is looked at.
+pub(crate) fn lies_on(own: &[Spans], other: &[Spans], narrow: &[bool; FIELDS]) -> bool
+    requires own { IsBox own.now }
+    requires other { IsBox other.now }
+    requires narrow { AreWholeBut narrow.now other.now }
+    ensures { IsTrue result → (numbers : List ℕ) → IsPoint numbers → Has own.now numbers → Has other.now numbers }
+{
+    for place in 0..FIELDS {
+        if narrow[place] && !is_part(&own[place], &other[place]) {
             return false;
         }
     }

@@ -8,6 +8,7 @@ ghost use Rattle.questions.specs.steps.Outlines.{IsOutlined};
 
 use crate::boxes::area::Area;
 use crate::boxes::ends::{Outline, outline_of};
+use crate::boxes::lying::lies_on;
 use crate::boxes::matched::has_on;
 use crate::boxes::meeting::{are_apart, narrow_fields};
 use fields::{FIELDS, Packet};
@@ -64,6 +65,13 @@ impl RuleBox {
         ensures { result ≡ box_matches packet.now.values self.now }
     {
         has_on(self.boxed.spans(), packet, &self.narrow)
+    }
+
+    // Whether it has all packets of a box. It takes no memory, and looks only at the fields where it leaves numbers out.
+    pub(crate) fn has_all(&self, area: &Area) -> bool
+        ensures { IsTrue result → (numbers : List ℕ) → IsPoint numbers → Has area.now numbers → Has self.now numbers }
+    {
+        lies_on(area.sets(), self.boxed.spans(), &self.narrow)
     }
 
     // Whether it has no packet in common with a box that has this outline, as far as the outlines tell.

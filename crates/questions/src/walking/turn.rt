@@ -239,15 +239,15 @@ fn cut(
     let count = table.rule_count(at.chain);
     prove!(at.passed < count);
     let rule = table.rule(at.chain, at.passed + 1);
-    let boxed = subject.boxed.at(at.chain, at.passed + 1);
-    if matches_all(rule, boxed, &task.scope.area) {
+    let own = subject.boxed.own_at(at.chain, at.passed + 1);
+    if matches_all(rule, own, &task.scope.area) {
         return go_with(subject, front, task, at, parted);
     }
     let behind = Pending {
         chain: at.chain,
         passed: at.passed + 1,
     };
-    match cut_by(front.alloc, rule, boxed, &task.scope.area)? {
+    match cut_by(front.alloc, rule, own.boxed(), &task.scope.area)? {
         Cut::Apart => go_on(front, task, behind),
         Cut::Parts(inside, outside) => {
             pass_over(front, outside, &task, behind)?;

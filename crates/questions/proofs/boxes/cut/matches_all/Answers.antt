@@ -3,4 +3,4 @@ use Rattle.questions.proofs.boxes.cut.matches_all.Goals as goal
 
 pub returns-then-not-asks_both : goal.returns-then-not-asks_both
 returns-then-not-asks_both c = λ is.
-    all_of_box c.args.rule.now c.args.area.now c.args.boxed.now c.requires (rw (c.sets.ensures.value, c.spans.ensures.value) at (c.lies_in.ensures.all is)) (c.asks_both.ensures.alone c.if-not-asks_both.true)
+    all_of_box c.args.rule.now c.args.area.now c.args.own.now c.requires (c.has_all.ensures is) (c.asks_both.ensures.alone c.if-not-asks_both.true)

@@ -1,4 +1,4 @@
-use Rattle.std.proofs.Common.{◌≡◌, ◌<◌, List, length, take, arith, subst}
+use Rattle.std.proofs.Common.{List, arith, subst}
 use Rattle.std.proofs.lemmas.List.{take_all}
 use Rattle.notation.specs.declared.packet_word.PacketWord.{PacketWord}
 use Rattle.questions.specs.steps.Saying.{IsSaidOf}

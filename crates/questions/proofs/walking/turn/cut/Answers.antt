@@ -15,9 +15,13 @@ use Rattle.questions.proofs.laws.PartedLaws.{adds_more, besides_past, gone_on, p
 use Rattle.questions.proofs.laws.PartLaws.{parted_only}
 use Rattle.questions.proofs.walking.turn.cut.Goals as goal
 
+pub matches_all-requires : goal.matches_all-requires
+matches_all-requires c =
+    own_box (chain_at (table_of c.args.subject.now) c.args.at.chain).rules (c.args.at.passed + 1 - 1) c.rule-rule.result.now c.own_at-own.result.now (omega (arith, c.requires.passed)) c.rule-rule.ensures c.own_at-own.ensures
+
 pub cut_by-requires : goal.cut_by-requires
-cut_by-requires c =
-    own_box (chain_at (table_of c.args.subject.now) c.args.at.chain).rules (c.args.at.passed + 1 - 1) c.rule-rule.result.now c.at-boxed.result.now (omega (arith, c.requires.passed)) c.rule-rule.ensures c.at-boxed.ensures
+cut_by-requires c = rw (← c.boxed.ensures) at
+    (own_box (chain_at (table_of c.args.subject.now) c.args.at.chain).rules (c.args.at.passed + 1 - 1) c.rule-rule.result.now c.own_at-own.result.now (omega (arith, c.requires.passed)) c.rule-rule.ensures c.own_at-own.ensures)
 
 pub returns-in-Apart-clause-moves : goal.returns-in-Apart-clause-moves
 returns-in-Apart-clause-moves c =
