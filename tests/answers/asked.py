@@ -15,6 +15,8 @@ A small ruleset has up to eleven rules, in INPUT and in one chain to which they 
 - `tests`: a packet for each rule that isn't dead, and by the model its walk has the rule.
 - `cover` of some of these packets: the rules that they leave out.
 - `reach` with some fields given or none: by one field, the verdict of each and who decides it; or that no such packet carries a key.
+- `assert` with claims about such packets, of each form: whether they hold, or a packet of these with one of the verdicts that they forbid; or that there
+  is no such packet.
 
 A large one has 30 to 200 rules, in INPUT and in three or four chains, to which jumps and gotos lead from INPUT and from earlier ones. Its rules
 also ask for ranges of ports:
@@ -46,10 +48,12 @@ from tests.drawn.rulesets.small import FLAGS, OTHERS, PORTS, SOURCES, TYPES, Sma
 SMALL, LARGE, EDITED = 60, 30, 8
 # Where the program is slow, one of so many large ones is drawn, and it isn't counted how often each answer came.
 SELDOM = 5
+VERDICTS = ["ACCEPT", "DROP", "REJECT"]
 FIELDS = ("proto", "frag", "sport", "dport", "flags", "icmp")
 # What `compare` shows of packets that get two verdicts.
 WALKS = r"(packet .*)\nold:\n((?:.*\n)*)new:\n((?:.*\n)*)"
 DUE = ("dead", "taken by", "comes from", "redundant", "shadowed", "same", "differs", "changed", "changed and dead", "missed", "reached", "carried by none",
+       "claimed", "claimed wrongly", "claimed of none",
        "dead of large", "same of large", "differs of large", "differs by policy", "without dead")
 
 
@@ -200,16 +204,16 @@ def has(field, word, number):
 
 
 def given_words(drawn):
-    """Some fields of packets, with the word for each: a value for each field that is given."""
+    """Some fields of packets, with the word for each: a value for each field that is given. In words commas part values, so no name with one is."""
     draw = drawn.draw
     ports = {port: f"{port}" if port < OTHERS else "5:65535" for port in PORTS}
-    words = {"src": SOURCES, "in": {name: name for name in drawn.interfaces.names}, "proto": {1: "icmp", 6: "tcp", 17: "udp", 33: "33", 47: "47"},
+    words = {"src": SOURCES, "in": {name: name for name in drawn.interfaces.names if "," not in name}, "proto": {1: "icmp", 6: "tcp", 17: "udp", 33: "33", 47: "47"},
              "frag": {0: "0", 1: "1"}, "sport": ports, "dport": ports,
              "flags": {number: name for name, number in FLAGS.items()}, "icmp": {number: name for name, number in TYPES.items()}}
     likely = {"src": 0.5, "in": 0.5, "proto": 0.5, "frag": 0.3, "sport": 0.2, "dport": 0.2, "flags": 0.1, "icmp": 0.1}
     given = {}
     for field, values in words.items():
-        if draw.random() < likely[field]:
+        if values and draw.random() < likely[field]:
             value = draw.choice(list(values))
             given[field] = (value, f"{field}={values[value]}")
     return given
@@ -237,6 +241,40 @@ def expect_reached(audit, file, drawn, found):
         told[verdict, decider.replace("policy", "the policy")] = {number for number, shown in numbers.items() if has(by, text, shown)}
     need(told == due, f"{' '.join(words[2:])}: {due} is due\n{said}")
     return {"reached": 1}
+
+
+def are_given(given, numbers):
+    return all(numbers.get(field) == value for field, (value, _) in given.items())
+
+
+def drawn_claim(drawn):
+    """A claim: its form, the fields of the packets that it is about and of those that it excepts, and its verdicts."""
+    draw = drawn.draw
+    form, given, excepted = draw.choice(["never", "always", "only"]), given_words(drawn), {}
+    while form == "only" and not excepted:
+        excepted = given_words(drawn)
+    return form, given, excepted, draw.sample(VERDICTS, draw.choice([1, 1, 2]))
+
+
+def expect_claim(audit, folder, file, drawn, found):
+    """Compares what is said of a claim; returns whether it holds."""
+    form, given, excepted, named = drawn_claim(drawn)
+    packets = [(numbers, walk.verdict.split()[0]) for (_, kinds), walk in zip(drawn.packets(), found) for numbers in kinds]
+    meant = {verdict for numbers, verdict in packets if are_given(given, numbers) and not (excepted and are_given(excepted, numbers))}
+    words = [form, *(word for _, word in excepted.values()), ",".join(named), "at INPUT", *(word for _, word in given.values())]
+    claims = pathlib.Path(folder, "claims")
+    claims.write_text(" ".join(words) + "\n", encoding="ascii")
+    if not meant or not any(are_given(excepted, numbers) for numbers, _ in packets):
+        asked(audit, "assert", file, str(claims), status=2)
+        return {"claimed of none": 1}
+    forbidden = {verdict for verdict in VERDICTS if (verdict in named) == (form != "always")}
+    said = asked(audit, "assert", file, str(claims), status=1 if meant & forbidden else 0)
+    if not meant & forbidden:
+        return {"claimed": 1}
+    line, verdict = re.search(r"(?m)^# (packet .*)\n(?:# \S+ \d+ .*\n)*# verdict (\S+)", said).groups()
+    need(verdict in forbidden, f"{' '.join(words)}: {sorted(forbidden)} are forbidden\n{said}")
+    need("proto" not in given or f" proto={given['proto'][0]} " in line, f"{' '.join(words)}: another protocol\n{said}")
+    return {"claimed wrongly": 1}
 
 
 @contextlib.contextmanager
@@ -277,6 +315,7 @@ def expect_small(audit, draw, folder):
         counts.update(expect_cover(audit, files[0], small, ruleset, found, dead))
         for _ in range(3):
             counts.update(expect_reached(audit, files[0], small, found))
+            counts.update(expect_claim(audit, folder, files[0], small, found))
     return counts
 
 

@@ -89,7 +89,7 @@ def examples_of(page):
 
 
 # The subcommands of each program; the other pages are those of scripts.
-SUBCOMMANDS = {"iptsim": ("session", "restore"), "iptaudit": ("dead", "compare", "tests", "cover", "reach", "walk")}
+SUBCOMMANDS = {"iptsim": ("session", "restore"), "iptaudit": ("dead", "compare", "tests", "cover", "reach", "walk", "assert")}
 COMMANDS = read_commands(ROOT)
 PAGES = {name: sections_of(name) for name in COMMANDS}
 PAGE, SCRIPTS = PAGES["iptsim"], [name for name in COMMANDS if name not in SUBCOMMANDS]

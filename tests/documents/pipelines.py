@@ -21,10 +21,10 @@ COMMAND = re.compile(r"(?m)^ *(?:run:|-) ((?:iptsim-\w+|iptaudit) .*)$")
 @pytest.mark.parametrize("name", ["github.yml", "gitlab.yml"])
 def test_pipeline(name, folder, iptsim, iptaudit):
     commands = COMMAND.findall(read("examples", name).decode())
-    assert [line.split()[0] for line in commands] == ["iptsim-check", "iptsim-expect", "iptaudit"]
+    assert [line.split()[0] for line in commands] == ["iptsim-check", "iptsim-expect", "iptaudit", "iptaudit"]
     environment, work = linked(os.path.join(folder, "commands"), iptsim=iptsim.path, iptaudit=iptaudit.path), os.path.join(folder, "work")
     os.mkdir(work)
-    for sample in ("web.rules", "web.expected"):
+    for sample in ("web.rules", "web.expected", "web.claims"):
         shutil.copy(os.path.join(EXAMPLES, sample), work)
     for line in commands:
         ended = subprocess.run(line, shell=True, cwd=work, env=environment, capture_output=True, check=False)

@@ -9,14 +9,14 @@ pub(crate) mod progress;
 use crate::asking::progress::Progress;
 use fields::{Field, Hook};
 use questions::{
-    Answers, BoxedTable, Changes, Coming, End, GivenPackets, Leaf, Life, Likeness, Reached, Reason,
-    Subject, WrittenPacket, changes_under, comes, compare_at_under, dead_under, ends, life_under,
-    reach, walks, why_dead_under,
+    Answers, BoxedTable, Changes, Claimed, Coming, End, GivenPackets, Leaf, Life, Likeness,
+    Reached, Reason, Subject, WrittenPacket, changes_under, check_claim, comes, compare_at_under,
+    dead_under, ends, life_under, reach, walks, why_dead_under,
 };
 use std::alloc::{AllocError, Global};
 use std::io::IsTerminal;
 use std::rt::Clock;
-use table::Step;
+use table::{Step, Verdict};
 
 /// How many steps each question takes at most, and how many were asked.
 #[derive(Drop)]
@@ -178,6 +178,20 @@ impl<'a, R: Clock, E: Print + IsTerminal> Asking<'a, R, E> {
         answers: &Answers,
     ) -> Result<Option<Vec<End>>, AllocError> {
         ends(self.alloc, subject, packet, answers, self.steps)
+    }
+
+    /// Whether no packet of a set gets one of some verdicts (`check_claim`).
+    ///
+    /// # Errors
+    ///
+    /// `AllocError` where memory was refused.
+    pub(crate) fn claimed(
+        &self,
+        subject: &Subject<'_>,
+        given: &GivenPackets,
+        forbidden: &[Verdict],
+    ) -> Result<Claimed, AllocError> {
+        check_claim(self.alloc, subject, given, forbidden, self.steps)
     }
 
     /// The verdicts of a set of packets, grouped by a field (`reach`), by their deciders in the order of a listing; those that a policy

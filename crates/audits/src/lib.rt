@@ -3,12 +3,15 @@
 #![tactic(auto)]
 
 mod asking;
+mod claims;
 mod difference;
 mod each_rule;
 mod marking;
 mod walking;
 
 pub use asking::Asking;
+pub use claims::claim::{AnsweredClaims, Claim, ClaimAnswer, ClaimTally, Counterexample};
+pub use claims::{ask_claims, first_untold};
 pub use difference::ask_difference;
 pub use difference::found::{Difference, Differing, HookAnswer, HookLikeness, Pair};
 pub use each_rule::ask_rules;

@@ -27,6 +27,36 @@ pub(crate) enum Fault<'a> {
     /// A word of packets with which those before it leave none at the hook, or `by=FIELD` where none of them carries the field.
     #[error("no such packet: {0}")]
     NoPackets(&'a str),
+    /// The first word of a claim, which isn't `never`, `always` or `only`.
+    #[error("no claim: {0}")]
+    NoClaim(&'a str),
+    /// A word of a claim before `at`.
+    #[error("no verdict: {0}")]
+    NoVerdict(&'a str),
+    /// A claim lacks `at` or the hook.
+    #[error("at HOOK is missing")]
+    NoPlace,
+    /// No word of packets stands behind `only`.
+    #[error("a word is missing behind only")]
+    NoException,
+    /// A claim with the name of another one.
+    #[error("name given twice: {0}")]
+    NamedTwice(&'a str),
+    /// A claim in which no verdict is left to stand for targets' own.
+    #[error("no verdict is left to stand for those of targets in {0}")]
+    Untold(&'a str),
+    /// A line of a file of claims is no UTF-8.
+    #[error("not UTF-8")]
+    NotText,
+    /// A line of a file of claims is too long.
+    #[error("line too long")]
+    TooLong,
+    /// The file and the number of a line of claims, and what is wrong there.
+    #[error("{0}:{1}: {2}")]
+    AtLine(&'a str, u64, String),
+    /// A file without claims.
+    #[error("no claim in {0}")]
+    NoClaims(&'a str),
     /// The word `by=FIELD` is missing.
     #[error("by=FIELD is missing")]
     NoField,

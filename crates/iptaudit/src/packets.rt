@@ -2,6 +2,7 @@
 pub(crate) mod asked_packets;
 pub(crate) mod covering;
 pub(crate) mod packet_input;
+pub(crate) mod packet_words;
 
 use crate::fault::Fault;
 use crate::packets::packet_input::{TakesPackets, take_packets};

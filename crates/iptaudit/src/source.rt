@@ -1,13 +1,19 @@
 //! The files of a question are restored, it is asked, and what is found is written, as lines or as a document.
+use crate::claims::{ClaimsFile, fault_at, read_claims};
 use crate::fault::Fault;
 use crate::packets::asked_packets::Asked;
 use crate::packets::covering::read_covered;
 use crate::packets::read_packets;
-use audits::{Asking, Form, GivenPacket, Inquiry, Pair, ask_difference, ask_packets, ask_rules};
+use audits::{
+    Asking, Claim, Form, GivenPacket, Inquiry, Pair, ask_claims, ask_difference, ask_packets,
+    ask_rules, first_untold,
+};
 use fields::Tap;
 use programs::{Audit, Question};
 use reports::{Finding, Outcomes};
-use rulesets::{Dump, OneDump, RulesetFault, TwoDumps, read_one, read_plain, read_two};
+use rulesets::{
+    Dump, OneDump, RulesetFault, TwoDumps, read_answered, read_one, read_plain, read_two,
+};
 use std::io::{IsTerminal, Write};
 use std::rt::{Clock, Files};
 
@@ -83,6 +89,24 @@ fn write_walks<'a, R: Clock, E: Print + IsTerminal, W: Write>(
         dump: &one.dump,
         open: &one.open,
         packets,
+        found: &found,
+    };
+    finding.write(asking.alloc(), json, output)?;
+    Ok(found.status())
+}
+
+// Asks whether claims hold, and answers the status.
+fn write_claims<'a, R: Clock, E: Print + IsTerminal, W: Write>(
+    asking: &mut Asking<'_, R, E>,
+    one: &OneDump,
+    claims: &[Claim],
+    json: bool,
+    output: &mut Tap<W>,
+) -> Result<u8, Fault<'a>> {
+    let found = ask_claims(asking, one, claims)?;
+    let finding = Finding::Claims {
+        one,
+        claims,
         found: &found,
     };
     finding.write(asking.alloc(), json, output)?;
@@ -177,6 +201,26 @@ where
         }
     }
 
+    // Asks a file whether the claims of another one hold, and answers the status.
+    fn write_claims<W: Write>(
+        &self,
+        file: &'a str,
+        claims: &'a str,
+        asking: &mut Asking<'_, R, E>,
+        output: &mut Tap<W>,
+    ) -> Result<u8, Fault<'a>> {
+        let ClaimsFile {
+            claims: listed,
+            given,
+        } = read_claims(self.rt, claims)?;
+        let one = read_answered(self.rt, self.errors, file, self.audit, &given)?;
+        if let Some(claim) = first_untold(&one.dump, listed.as_slice()) {
+            let fault = Fault::Untold(file);
+            return Err(fault_at(self.rt.alloc(), claims, claim.line, &fault));
+        }
+        write_claims(asking, &one, listed.as_slice(), self.audit.json, output)
+    }
+
     /// Restores the files of the question, writes its answer, and answers the status.
     ///
     /// # Errors
@@ -195,6 +239,7 @@ where
             Question::Compare { old, new } => self.write_differences(old, new, asking, output),
             Question::Reach { file } => self.write_reach(file, asking, output),
             Question::Walk { file } => self.write_walks(file, asking, output),
+            Question::Assert { file, claims } => self.write_claims(file, claims, asking, output),
         }
     }
 }

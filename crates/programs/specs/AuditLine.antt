@@ -61,11 +61,15 @@ words_rule = record (new_rule (codes "word")) {
 abbrev pub reach_app : App
 reach_app = with_options (with_rule (with_rule (new_app (codes "reach")) (file_rule (codes "file"))) words_rule)
 
--- the program, with its six subcommands
+-- `assert FILE CLAIMS`, with options
+abbrev pub assert_app : App
+assert_app = with_whole_options (with_rule (with_rule (new_app (codes "assert")) (file_rule (codes "file"))) (file_rule (codes "claims")))
+
+-- the program, with its seven subcommands
 abbrev pub program_app : App
-program_app = with_subcommand (with_subcommand (with_subcommand (with_subcommand (with_subcommand (with_subcommand
+program_app = with_subcommand (with_subcommand (with_subcommand (with_subcommand (with_subcommand (with_subcommand (with_subcommand
     (as_program (new_app (codes "iptaudit"))) (one_file_app (codes "dead")).top) compare_app.top) (one_file_app (codes "tests")).top)
-    (one_file_app (codes "cover")).top) reach_app.top) (one_file_app (codes "walk")).top
+    (one_file_app (codes "cover")).top) reach_app.top) (one_file_app (codes "walk")).top) assert_app.top
 
 -- the name of a subcommand that asks about one file
 abbrev pub AsksOneFile : Text → Type 0
@@ -74,7 +78,7 @@ AsksOneFile name = (name ≡ codes "dead") ⊎ (name ≡ codes "tests") ⊎ (nam
 -- the name of a subcommand
 abbrev pub IsSubcommand : Text → Type 0
 IsSubcommand name = (name ≡ codes "dead") ⊎ (name ≡ codes "compare") ⊎ (name ≡ codes "tests") ⊎ (name ≡ codes "cover") ⊎ (name ≡ codes "reach")
-    ⊎ (name ≡ codes "walk")
+    ⊎ (name ≡ codes "walk") ⊎ (name ≡ codes "assert")
 
 -- the one file of a subcommand of this name
 abbrev pub AsksOf : Text → Text → List Row → Text → Type 0
@@ -89,11 +93,14 @@ IsQuestion name rows (questions.Tests file) = AsksOf (codes "tests") name rows f
 IsQuestion name rows (questions.Cover file) = AsksOf (codes "cover") name rows file.now
 IsQuestion name rows (questions.Reach file) = AsksOf (codes "reach") name rows file.now
 IsQuestion name rows (questions.Walk file) = AsksOf (codes "walk") name rows file.now
+IsQuestion name rows (questions.Assert file claims) = (name ≡ codes "assert")
+    × (Some file.now ≡ first_of (codes "file") rows) × (Some claims.now ≡ first_of (codes "claims") rows)
 
 -- a file of a subcommand was not found
 abbrev pub LacksFile : Text → List Row → Type 0
 LacksFile name rows = (AsksOneFile name × (first_of (codes "file") rows ≡ None))
     ⊎ ((name ≡ codes "compare") × ((first_of (codes "old") rows ≡ None) ⊎ (first_of (codes "new") rows ≡ None)))
+    ⊎ ((name ≡ codes "assert") × ((first_of (codes "file") rows ≡ None) ⊎ (first_of (codes "claims") rows ≡ None)))
 
 -- all that was found under a name
 abbrev pub values_of : Text → List Row → List Text

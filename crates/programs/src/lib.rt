@@ -14,6 +14,7 @@
 //! | `cover FILE` | which rules match none of the packets on standard input |
 //! | `reach FILE WORD..` | the verdicts of a set of packets, grouped by a field |
 //! | `walk FILE` | the walks of the packets on standard input |
+//! | `assert FILE CLAIMS` | whether claims hold of all packets |
 //!
 //! Each of these takes `[--steps N] [--when CONDITION].. [--json]`. Both programs take `--help` and `--version` in place of a subcommand.
 #![tactic(auto)]

@@ -3,16 +3,18 @@ pub(crate) mod outcomes;
 
 use crate::fault::ReportFault;
 use crate::finding::outcomes::Outcomes;
+use crate::json::claims::claims_answer;
 use crate::json::difference::differences_answer;
 use crate::json::document::{Answer, text_of};
 use crate::json::each_rule::rules_answer;
 use crate::json::packet_walks::packets_answer;
+use crate::lines::claims::put_claims;
 use crate::lines::difference::put_differences;
 use crate::lines::each_rule::put_rules;
 use crate::lines::packet_walks::put_packets;
-use audits::{Difference, Found, GivenPacket, Inquiry, PacketWalks, Pair};
+use audits::{AnsweredClaims, Claim, Difference, Found, GivenPacket, Inquiry, PacketWalks, Pair};
 use fields::Tap;
-use rulesets::{Dump, MatchCount, OpenConditions, open_counts};
+use rulesets::{Dump, MatchCount, OneDump, OpenConditions, open_counts};
 use std::alloc::{AllocError, Global};
 use std::io::Write;
 
@@ -46,6 +48,15 @@ pub enum Finding<'a> {
         /// What becomes of each, in their order.
         found: &'a PacketWalks,
     },
+    /// What is known of claims.
+    Claims {
+        /// The dump of which they are.
+        one: &'a OneDump,
+        /// The claims.
+        claims: &'a [Claim],
+        /// What is known of each, in their order.
+        found: &'a AnsweredClaims,
+    },
 }
 
 impl Finding<'_> {
@@ -56,6 +67,7 @@ impl Finding<'_> {
             Finding::Difference { pair, .. } => open_counts(alloc, pair.open),
             Finding::Outcomes(_) => Ok(Vec::new(alloc)),
             Finding::Walks { open, .. } => open_counts(alloc, open),
+            Finding::Claims { one, .. } => open_counts(alloc, &one.open),
         }
     }
 
@@ -76,6 +88,9 @@ impl Finding<'_> {
                 packets,
                 found,
             } => put_packets(dump, open, packets, found, counts, output)?,
+            Finding::Claims { one, claims, found } => put_claims(
+                one, claims, found, counts, output,
+            )?,
         }
         Ok(())
     }
@@ -92,6 +107,9 @@ impl Finding<'_> {
                 packets,
                 found,
             } => packets_answer(alloc, dump, open, packets, found, counts),
+            Finding::Claims { one, claims, found } => claims_answer(
+                alloc, one, claims, found, counts,
+            ),
         }
     }
 

@@ -1,4 +1,5 @@
 //! What an audit found, as JSON documents.
+pub(crate) mod claims;
 pub(crate) mod condition_entry;
 pub(crate) mod counts;
 pub(crate) mod difference;

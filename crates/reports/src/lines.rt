@@ -1,4 +1,5 @@
 //! What an audit found, as lines.
+pub(crate) mod claims;
 pub(crate) mod condition_text;
 pub(crate) mod difference;
 pub(crate) mod each_rule;

@@ -236,6 +236,11 @@ impl Dump {
         self.verdicts.at(at)
     }
 
+    /// Whether some rule has a verdict of its own.
+    pub fn has_own_verdicts(&self) -> bool {
+        !self.verdicts.is_empty()
+    }
+
     /// What becomes of a packet that gets this verdict from a rule, or else from a policy.
     pub fn given(&self, verdict: Verdict, by: Option<Step>) -> GivenVerdict<'_> {
         match by.and_then(|at| self.own_verdict(at)) {

@@ -28,6 +28,12 @@ pub enum RulesetFault<'a> {
     /// A word of `--when` that contradicts another one.
     #[error("answered twice: {0}")]
     AnsweredTwice(&'a str),
+    /// The file, the number and the text of a line with an answer.
+    #[error("{0}:{1}: no rule has this condition: {2}")]
+    FileNoCondition(&'a str, u64, String),
+    /// The same of an answer that contradicts another one.
+    #[error("{0}:{1}: answered twice: {2}")]
+    FileAnsweredTwice(&'a str, u64, String),
     /// A file whose chains aren't made by its `-A` lines alone, so that it isn't known which rules ask its conditions.
     #[error("cannot tell which rules of {0} have its conditions")]
     CannotPlace(&'a str),

@@ -1,4 +1,5 @@
 //! Dumps as they are asked about: with the conditions of their rules, and the answers of `--when`.
+use crate::conditions::file_answers::{FileAnswers, answer_from};
 use crate::conditions::open_conditions::{OpenConditions, Taken};
 use crate::dump::{Dump, listed_needs};
 use crate::fault::RulesetFault;
@@ -118,6 +119,43 @@ fn listed_one<'a>(
     Ok((conditions, needs))
 }
 
+// The dump of a loaded file with the conditions of its rules, by the answers of words of `--when` and of a file.
+fn one_loaded<'a>(
+    alloc: Global,
+    file: &'a str,
+    loaded: Loaded,
+    when: &[&'a str],
+    given: &FileAnswers<'a>,
+) -> Result<OneDump, RulesetFault<'a>> {
+    let (conditions, needs) = listed_one(alloc, file, &loaded)?;
+    let listed = listed(alloc, loaded, needs)?;
+    let mut open = answered(alloc, conditions, false, when)?;
+    answer_from(alloc, &mut open, given)?;
+    let dump = dump_of(alloc, listed, &open)?;
+    Ok(OneDump { dump, open })
+}
+
+/// Reads a file, as the words of the program say, with the answers of `--when` and those of another file.
+///
+/// # Errors
+///
+/// Those of words of `--unknown`, `--local` and `--when`, and of the answers of the other file; `CannotPlace`; or where the file cannot be opened,
+/// read or restored, or memory was refused.
+pub fn read_answered<'a, R, E>(
+    rt: &R,
+    errors: &E,
+    file: &'a str,
+    audit: &Audit<'a>,
+    given: &FileAnswers<'a>,
+) -> Result<OneDump, RulesetFault<'a>>
+where
+    R: Files + AllocGlobal,
+    E: Print,
+{
+    let loaded = load_dump(rt, errors, file, audit)?;
+    one_loaded(rt.alloc(), file, loaded, audit.when.as_slice(), given)
+}
+
 /// Reads a file, as the words of the program say, with the answers of `--when`.
 ///
 /// # Errors
@@ -134,13 +172,11 @@ where
     R: Files + AllocGlobal,
     E: Print,
 {
-    let alloc = rt.alloc();
-    let loaded = load_dump(rt, errors, file, audit)?;
-    let (conditions, needs) = listed_one(alloc, file, &loaded)?;
-    let listed = listed(alloc, loaded, needs)?;
-    let open = answered(alloc, conditions, false, audit.when.as_slice())?;
-    let dump = dump_of(alloc, listed, &open)?;
-    Ok(OneDump { dump, open })
+    let given = FileAnswers {
+        file,
+        answers: Vec::new(rt.alloc()),
+    };
+    read_answered(rt, errors, file, audit, &given)
 }
 
 /// Reads a file as `read_one` does, none of whose rules may have conditions.

@@ -1,5 +1,7 @@
 //! Verdicts of their own: those of targets that the program doesn't read, as NFQUEUE (iptables-extensions(8)). In the table such a rule drops.
 pub(crate) mod accepted;
+pub(crate) mod replaced;
+pub(crate) mod stand_ins;
 
 use crate::dump::rule_at;
 use crate::text::bytes_of;
@@ -98,6 +100,11 @@ impl OwnVerdicts {
             chains.push(own_verdicts_of(alloc, table, place, read.as_slice())?)?;
         }
         Ok(OwnVerdicts { chains })
+    }
+
+    /// Whether no rule has one.
+    pub(crate) fn is_empty(&self) -> bool {
+        self.chains.iter().all(|rules| rules.is_empty())
     }
 
     /// The rule, if its verdict is its own.

@@ -50,3 +50,11 @@ complete -c iptaudit -n '__fish_seen_subcommand_from walk' -l when -r -f -d 'Tak
 complete -c iptaudit -n '__fish_seen_subcommand_from walk' -l unknown -r -f -d 'Read MATCH as a condition; \'MATCH OPTION N\' gives it an option with N values'
 complete -c iptaudit -n '__fish_seen_subcommand_from walk' -l local -r -f -d 'Read addrtype by the machine\'s addresses, ADDRESS/LENGTH, with commas between'
 complete -c iptaudit -n '__fish_seen_subcommand_from walk' -F
+complete -c iptaudit -n __fish_use_subcommand -a assert -d 'Print which claims hold of all packets, or a packet for which one fails'
+complete -c iptaudit -n '__fish_seen_subcommand_from assert' -s h -l help -d 'Print help'
+complete -c iptaudit -n '__fish_seen_subcommand_from assert' -l steps -r -f -d 'Take N steps at most for each question'
+complete -c iptaudit -n '__fish_seen_subcommand_from assert' -l json -d 'Print the answer as one JSON document'
+complete -c iptaudit -n '__fish_seen_subcommand_from assert' -l when -r -f -d 'Take CONDITION as one that holds, or after \'! \' as one that doesn\'t'
+complete -c iptaudit -n '__fish_seen_subcommand_from assert' -l unknown -r -f -d 'Read MATCH as a condition; \'MATCH OPTION N\' gives it an option with N values'
+complete -c iptaudit -n '__fish_seen_subcommand_from assert' -l local -r -f -d 'Read addrtype by the machine\'s addresses, ADDRESS/LENGTH, with commas between'
+complete -c iptaudit -n '__fish_seen_subcommand_from assert' -F

@@ -2,10 +2,11 @@
 ghost use Rattle.std.specs.Prelude.{◌≡◌};
 
 use crate::fault::Fault;
-use fields::{FIELDS, Field, Hook, Spans, cut_at};
-use notation::{PacketWord, PacketWordFault};
-use questions::{Area, GivenPackets, said};
-use std::alloc::{AllocError, Global};
+use crate::packets::packet_words::{Saying, add_word, expect_packets};
+use fields::{Field, Hook, Spans, cut_at};
+use notation::PacketWord;
+use questions::{GivenPackets, said};
+use std::alloc::Global;
 
 /// Some packets, and a field.
 #[derive(Drop)]
@@ -14,13 +15,6 @@ pub(crate) struct Asked {
     pub(crate) given: GivenPackets,
     /// The field.
     pub(crate) field: Field,
-}
-
-// Which keys words give: with `=`, and with `!=`.
-#[derive(Drop)]
-struct Seen {
-    given: [bool; FIELDS],
-    denied: [bool; FIELDS],
 }
 
 // The field of a key.
@@ -61,76 +55,19 @@ fn asked_field<'a>(words: &[&'a str]) -> Result<(Field, &'a str), Fault<'a>> {
     }
 }
 
-// What a word says.
-fn said_by<'a>(alloc: Global, word: &'a str) -> Result<PacketWord, Fault<'a>> {
-    match PacketWord::read(alloc, word.as_bytes()) {
-        Ok(said) => Ok(said),
-        Err(PacketWordFault::NoMemory) => Err(Fault::from(AllocError)),
-        Err(_) => Err(Fault::BadWord(word)),
-    }
-}
-
-impl Seen {
-    // Notes the key of a word. Whether no word gave it so before.
-    fn note(&mut self, word: &PacketWord) -> bool {
-        let place = word.field.index();
-        if word.denies {
-            let is_new = !self.denied[place];
-            self.denied[place] = true;
-            return is_new;
-        }
-        let is_new = !self.given[place];
-        self.given[place] = true;
-        is_new
-    }
-}
-
-// Whether some packet at a hook is in one of some boxes.
-fn has_packets(boxes: &[Area]) -> bool {
-    boxes.iter().any(|area| !area.is_empty())
-}
-
-// Sees that some packets at a hook are as the words say; the last of these stands there.
-fn expect_packets<'a>(
-    alloc: Global,
-    hook: Hook,
-    words: &[PacketWord],
-    last: &'a str,
-) -> Result<(), Fault<'a>> {
-    if has_packets(said(alloc, hook, words)?.as_slice()) {
-        return Ok(());
-    }
-    Err(Fault::NoPackets(last))
-}
-
-// Adds a word.
-fn add(words: &mut Vec<PacketWord>, word: PacketWord) -> Result<(), AllocError> {
-    words.push(word)?;
-    Ok(())
-}
-
 // What all words but `by=FIELD` say, each of a key once with `=` and once with `!=`. Some packets at a hook are so.
 fn all_said<'a>(
     alloc: Global,
     hook: Hook,
     words: &[&'a str],
 ) -> Result<Vec<PacketWord>, Fault<'a>> {
-    let mut said = Vec::new(alloc);
-    let mut seen = Seen {
-        given: [false; FIELDS],
-        denied: [false; FIELDS],
-    };
+    let mut saying = Saying::at(alloc, hook);
     for word in words {
         if field_by(word)?.is_none() {
-            let one = said_by(alloc, word)?;
-            if !seen.note(&one) {
-                return Err(Fault::BadWord(word));
-            }
-            add(&mut said, one)?;
-            expect_packets(alloc, hook, said.as_slice(), word)?;
+            saying.take(word)?;
         }
     }
-    Ok(said)
+    Ok(saying.into_words())
 }
 
 // The word that a packet carries a key.
@@ -159,7 +96,7 @@ impl Asked {
         let (field, by) = asked_field(words)?;
         let mut wanted = all_said(alloc, hook, words)?;
         let boxes = said(alloc, hook, wanted.as_slice())?;
-        add(&mut wanted, carries(alloc, field)?)?;
+        add_word(&mut wanted, carries(alloc, field)?)?;
         expect_packets(alloc, hook, wanted.as_slice(), by)?;
         Ok(Asked {
             given: GivenPackets { hook, boxes },

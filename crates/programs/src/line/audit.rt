@@ -2,7 +2,7 @@
 ghost use Rattle.std.specs.Prelude.{◌≡◌, IfErr, IfOk, MatchOption, codes, false, map};
 ghost use Rattle.clap.specs.Words.{app_of, found_of, rows_of, rule_of};
 ghost use Rattle.clap.specs.declared.builder.command.Command.TheViews.{out-Command as fields_of};
-ghost use Rattle.programs.specs.AuditLine.{IsAuditOf, IsQuestion, IsSubcommand, LacksFile, compare_app, file_rule, json_rule, local_rule, one_file_app, program_app, reach_app, steps_rule, unknown_rule, values_of, when_rule, with_options, with_whole_options, words_rule};
+ghost use Rattle.programs.specs.AuditLine.{IsAuditOf, IsQuestion, IsSubcommand, LacksFile, assert_app, compare_app, file_rule, json_rule, local_rule, one_file_app, program_app, reach_app, steps_rule, unknown_rule, values_of, when_rule, with_options, with_whole_options, words_rule};
 ghost use Rattle.programs.specs.Line.{AsksFor, IsFaultOn};
 
 use super::fault::LineFault;
@@ -25,6 +25,8 @@ pub enum Question<'a> {
     Reach { file: &'a str },
     /// The walks of some packets.
     Walk { file: &'a str },
+    /// Whether claims about all packets hold.
+    Assert { file: &'a str, claims: &'a str },
 }
 
 /// A question, the number that was given of steps, whether the answer is to be JSON, the conditions that are answered, the options that are
@@ -171,6 +173,17 @@ fn compare<'a>(alloc: Global) -> Result<Command<'a>, AllocError>
     whole_options(alloc, command)
 }
 
+fn assert<'a>(alloc: Global) -> Result<Command<'a>, AllocError>
+    ensures app { IfOk result (λ c. app_of c ≡ assert_app) }
+    ensures local { IfOk result (λ c. (fields_of c).has_globals ≡ false) }
+{
+    let command = Command::new(alloc, "assert")
+        .about("Print which claims hold of all packets, or a packet for which one fails")
+        .arg(file(alloc, "file", "FILE", "A file of iptables-restore"))?
+        .arg(file(alloc, "claims", "CLAIMS", "A file of claims, a line each"))?;
+    whole_options(alloc, command)
+}
+
 fn program<'a>(alloc: Global) -> Result<Command<'a>, AllocError>
     ensures { IfOk result (λ c. app_of c ≡ program_app) }
 {
@@ -201,6 +214,7 @@ fn program<'a>(alloc: Global) -> Result<Command<'a>, AllocError>
     let program = with(program, cover)?;
     let program = with(program, reach(alloc)?)?;
     let program = with(program, walk)?;
+    let program = with(program, assert(alloc)?)?;
     Ok(program)
 }
 
@@ -234,6 +248,10 @@ fn question_of<'a>(subcommand: &str, matches: &ArgMatches<'a>) -> Option<Questio
         "walk" => match matches.get_str("file") {
             Some(file) => Some(Question::Walk { file }),
             None => None,
+        },
+        "assert" => match (matches.get_str("file"), matches.get_str("claims")) {
+            (Some(file), Some(claims)) => Some(Question::Assert { file, claims }),
+            _ => None,
         },
         _ => unreachable!(),
     }

@@ -9,8 +9,12 @@ use fields::Hook;
 use rulesets::{Dump, MatchCount, OpenConditions};
 use std::alloc::{AllocError, Global};
 
-// The rules of a walk, each with what it needs beside the answers.
-fn trail_entries(
+/// The rules of a walk, each with what it needs beside the answers.
+///
+/// # Errors
+///
+/// `AllocError` where memory was refused.
+pub(crate) fn trail_entries(
     alloc: Global,
     dump: &Dump,
     open: &OpenConditions,

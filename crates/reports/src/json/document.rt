@@ -40,6 +40,12 @@ pub(crate) enum Answer {
         #[serde(skip_serializing_if = "Vec::is_empty")]
         open: Vec<OpenEntry>,
     },
+    Assert {
+        claims: Vec<ClaimEntry>,
+        counts: ClaimCounts,
+        #[serde(skip_serializing_if = "Vec::is_empty")]
+        open: Vec<OpenEntry>,
+    },
     Reach {
         field: String,
         outcomes: Vec<OutcomeEntry>,
@@ -249,6 +255,45 @@ pub(crate) struct WalkEntry {
 pub(crate) enum DeciderEntry {
     Rule(RuleName),
     Policy { policy: String },
+}
+
+/// What is known of a claim; and where it fails a packet, with the answers under which it does, and its walk, where that is known.
+#[derive(Drop, Serialize)]
+pub(crate) struct ClaimEntry {
+    /// The number of its line.
+    pub(crate) line: u64,
+    #[serde(skip_serializing_if = "Option::is_none")]
+    pub(crate) name: Option<String>,
+    pub(crate) text: String,
+    pub(crate) answer: ClaimWord,
+    #[serde(skip_serializing_if = "Option::is_none")]
+    pub(crate) packet: Option<String>,
+    #[serde(rename = "if", skip_serializing_if = "Vec::is_empty")]
+    pub(crate) given: Vec<AnswerEntry>,
+    #[serde(skip_serializing_if = "Option::is_none")]
+    pub(crate) walk: Option<Vec<RuleName>>,
+    #[serde(skip_serializing_if = "Option::is_none")]
+    pub(crate) verdict: Option<String>,
+    #[serde(skip_serializing_if = "Option::is_none")]
+    pub(crate) by: Option<DeciderEntry>,
+}
+
+/// What is known of a claim, in one word.
+#[derive(Clone, Copy, Serialize)]
+#[serde(rename_all = "snake_case")]
+pub(crate) enum ClaimWord {
+    Ok,
+    Fails,
+    Unclear,
+}
+
+/// How many claims there are, of all and of each kind.
+#[derive(Drop, Serialize)]
+pub(crate) struct ClaimCounts {
+    pub(crate) claims: usize,
+    pub(crate) ok: usize,
+    pub(crate) fails: usize,
+    pub(crate) unclear: usize,
 }
 
 /// A verdict with what gives it, and the numbers of its packets on the field.

@@ -7,16 +7,25 @@ use audits::{Branch, GivenPacket, PacketWalks};
 use fields::{Tap, WriteFailed};
 use rulesets::{Dump, MatchCount, OpenConditions};
 use std::io::Write;
-use table::Verdict;
+use table::{Step, Verdict};
 
-// Writes what becomes of a packet: `ACCEPT by INPUT 3`.
-fn put_end<W: Write>(dump: &Dump, branch: &Branch, output: &mut Tap<W>) -> Result<(), WriteFailed> {
-    put_verdict(dump.given(branch.verdict, branch.by), output)?;
-    if branch.verdict == Verdict::TooLong {
+/// Writes what becomes of a packet: `ACCEPT by INPUT 3`.
+///
+/// # Errors
+///
+/// `WriteFailed` where a write failed.
+pub(crate) fn put_end<W: Write>(
+    dump: &Dump,
+    verdict: Verdict,
+    by: Option<Step>,
+    output: &mut Tap<W>,
+) -> Result<(), WriteFailed> {
+    put_verdict(dump.given(verdict, by), output)?;
+    if verdict == Verdict::TooLong {
         return Ok(());
     }
     output.put(b" by ")?;
-    put_decider(dump, branch.by, output)
+    put_decider(dump, by, output)
 }
 
 // Whether no condition has to hold for a branch.
@@ -69,7 +78,7 @@ fn put_alike<W: Write>(
     if !are_bare(branches) {
         put_conditions(open, branches, output)?;
     }
-    put_end(dump, first, output)
+    put_end(dump, first.verdict, first.by, output)
 }
 
 // How many branches, the first among them, end as it does.

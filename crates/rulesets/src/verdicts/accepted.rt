@@ -3,13 +3,11 @@
 //! reading in which all of them drop, so that none is ACCEPT; and since no number is 0, none is DROP.
 use crate::conditions::open_conditions::OpenConditions;
 use crate::dump::Dump;
-use crate::verdicts::OwnVerdict;
-use fields::Words;
+use crate::verdicts::replaced::put_target;
 use questions::{BoxedTable, Need, Needs, Subject};
-use rules::{Rule, RuleFault, Work, read_rule};
 use sessions::Session;
 use std::alloc::{AllocError, Global};
-use table::{Step, Table, TableFault};
+use table::Step;
 
 /// Two tables in which some rules with verdicts of their own accept, and the others drop.
 #[derive(Drop)]
@@ -46,9 +44,8 @@ fn number_of(names: &[Vec<u8>], words: &[u8]) -> Option<usize> {
 
 // A rule with a verdict of its own.
 #[derive(Clone, Copy)]
-struct OwnRule<'d> {
+struct OwnRule {
     at: Step,
-    own: &'d OwnVerdict,
     // The number of its verdict.
     number: usize,
 }
@@ -64,11 +61,11 @@ fn numbered(names: &mut Vec<Vec<u8>>, words: &[u8]) -> Result<usize, AllocError>
 }
 
 // Adds the rules of a chain that have verdicts of their own.
-fn add_rules<'d>(
-    dump: &'d Dump,
+fn add_rules(
+    dump: &Dump,
     chain: usize,
     names: &mut Vec<Vec<u8>>,
-    rules: &mut Vec<OwnRule<'d>>,
+    rules: &mut Vec<OwnRule>,
 ) -> Result<(), AllocError> {
     for passed in 0..dump.rule_count(chain) {
         let at = Step {
@@ -77,56 +74,23 @@ fn add_rules<'d>(
         };
         if let Some(own) = dump.own_verdict(at) {
             let number = numbered(names, own.words.as_slice())?;
-            rules.push(OwnRule { at, own, number })?;
+            rules.push(OwnRule { at, number })?;
         }
     }
     Ok(())
 }
 
 // The rules of a dump that have verdicts of their own.
-fn own_rules<'d>(
+fn own_rules(
     alloc: Global,
-    dump: &'d Dump,
+    dump: &Dump,
     names: &mut Vec<Vec<u8>>,
-) -> Result<Vec<OwnRule<'d>>, AllocError> {
+) -> Result<Vec<OwnRule>, AllocError> {
     let mut rules = Vec::new(alloc);
     for chain in 0..dump.chain_count() {
         add_rules(dump, chain, names, &mut rules)?;
     }
     Ok(rules)
-}
-
-// The rule that accepts, of which this stands before its target; none where that isn't the text of a rule.
-fn accepting_rule(alloc: Global, before: &[u8]) -> Result<Option<Rule>, AllocError> {
-    let mut line = before.to_vec(alloc)?;
-    line.extend_from_slice(b" -j ACCEPT")?;
-    let Ok(words) = Words::split(alloc, line.as_slice()) else {
-        return Err(AllocError);
-    };
-    match read_rule(alloc, &words, 0) {
-        Ok(rule) => Ok(Some(rule)),
-        Err(RuleFault::NoMemory) => Err(AllocError),
-        Err(RuleFault::Refused(_)) => Ok(None),
-    }
-}
-
-// A rule of a dump accepts in a table of the same chains. Whether it could be put there.
-fn accept(
-    alloc: Global,
-    dump: &Dump,
-    rule: OwnRule<'_>,
-    table: &mut Table,
-    work: &mut Work,
-) -> Result<bool, AllocError> {
-    let Some(accepting) = accepting_rule(alloc, rule.own.before.as_slice())? else {
-        return Ok(false);
-    };
-    let name = dump.chain_name(rule.at.chain);
-    match table.replace(name, rule.at.number, accepting, work) {
-        Ok(()) => Ok(true),
-        Err(TableFault::NoMemory) => Err(AllocError),
-        Err(_) => Ok(false),
-    }
 }
 
 // Whether a number has a binary digit, which is 1, 2, 4 and so on.
@@ -138,13 +102,15 @@ fn has_digit(number: usize, digit: usize) -> bool {
 fn accepting_table(
     alloc: Global,
     dump: &Dump,
-    rules: &[OwnRule<'_>],
+    rules: &[OwnRule],
     digit: usize,
 ) -> Result<Option<BoxedTable>, AllocError> {
     let mut table = dump.table().copy()?;
     let (_none, mut work) = Session::new(alloc)?.into_parts();
     for rule in rules {
-        if has_digit(rule.number, digit) && !accept(alloc, dump, *rule, &mut table, &mut work)? {
+        if has_digit(rule.number, digit)
+            && !put_target(alloc, dump, rule.at, b"ACCEPT", &mut table, &mut work)?
+        {
             return Ok(None);
         }
     }
