@@ -49,6 +49,7 @@ SMALL, LARGE, EDITED = 60, 30, 8
 # Where the program is slow, one of so many large ones is drawn, and it isn't counted how often each answer came.
 SELDOM = 5
 VERDICTS = ["ACCEPT", "DROP", "REJECT"]
+WHOLE = ("src", "frag", "sport", "dport")
 FIELDS = ("proto", "frag", "sport", "dport", "flags", "icmp")
 # What `compare` shows of packets that get two verdicts.
 WALKS = r"(packet .*)\nold:\n((?:.*\n)*)new:\n((?:.*\n)*)"
@@ -247,12 +248,17 @@ def are_given(given, numbers):
     return all(numbers.get(field) == value for field, (value, _) in given.items())
 
 
+def excepted_words(drawn):
+    """The words that a claim excepts: each says all packets of a kind that rulesets tell apart, so that the others that are walked here stand for all that is left."""
+    return {field: said for field, said in given_words(drawn).items() if field in WHOLE and said[1] != "src=128.0.0.0/1"}
+
+
 def drawn_claim(drawn):
     """A claim: its form, the fields of the packets that it is about and of those that it excepts, and its verdicts."""
     draw = drawn.draw
     form, given, excepted = draw.choice(["never", "always", "only"]), given_words(drawn), {}
     while form == "only" and not excepted:
-        excepted = given_words(drawn)
+        excepted = excepted_words(drawn)
     return form, given, excepted, draw.sample(VERDICTS, draw.choice([1, 1, 2]))
 
 
